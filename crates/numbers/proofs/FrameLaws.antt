@@ -1,0 +1,55 @@
+-- Frames: every action gets exactly one of 0, 3 and 4; the kinds of the table are those of 01's three ranges; and what an
+-- action that passes the check is known to be.
+use mathlib.Core.Path.{_≡_, refl, sym, ap, _∙_}
+use mathlib.Core.Bool.{Bool, true, false, Bool·beq}
+use mathlib.Core.Logic.{_⊎_, inl, inr}
+use Prim.Native.Nat.{ℕ, zero, suc, _<_}
+use native.Mathlib.Omega.{arith}
+use lib.Dec.{eqb, leb}
+use borrow.Author.Tests.{eqb-true, eqb-false}
+use Rattle.numbers.specs.Tests.{_and_, _or_, isnt}
+use Rattle.numbers.specs.Rules.{least}
+use Rattle.numbers.specs.Search.{first, upto}
+use Rattle.numbers.specs.Frames.{kinds, row-of, stray, beyond, frame-number}
+use Rattle.numbers.specs.declared.frames.Action.{Action}
+use Rattle.numbers.proofs.Bools.{split}
+use Rattle.numbers.proofs.SearchLaws.{upto-at}
+
+-- ── 0, 3 or 4 ──
+pub data Checked (a : Action) : ℕ → Type 0 where
+  -- a known kind, unused fields zero, numbers in range
+  fine : eqb (row-of (a .kind)) 0 ≡ false → stray (row-of (a .kind)) a ≡ false → beyond (row-of (a .kind)) a ≡ false → Checked a 0
+  -- not a frame
+  unknown : eqb (row-of (a .kind)) 0 ≡ true → Checked a 3
+  unused : eqb (row-of (a .kind)) 0 ≡ false → stray (row-of (a .kind)) a ≡ true → Checked a 3
+  -- a frame, with a number out of range
+  out-of-range : eqb (row-of (a .kind)) 0 ≡ false → stray (row-of (a .kind)) a ≡ false → beyond (row-of (a .kind)) a ≡ true → Checked a 4
+
+pub checked : (a : Action) → Checked a (frame-number a)
+unfolding frame-number least
+checked a = split (eqb (row-of (a .kind)) 0)
+    (λ e. rw e (unknown e))
+    (λ e. split (stray (row-of (a .kind)) a)
+    (λ s. rw (e, s) (unused e s))
+    (λ s. split (beyond (row-of (a .kind)) a) (λ b. rw (e, s, b) (out-of-range e s b)) (λ b. rw (e, s, b) (fine e s b))))
+
+-- ── the table's rule: a kind has a row exactly when it is one of 01..05, 10..1b, 20..25 ──
+pub within : ℕ → ℕ → ℕ → Bool
+within from to k = leb from k and leb k to
+
+pub in-ranges : ℕ → Bool
+in-ranges k = within 0x01 0x05 k or within 0x10 0x1b k or within 0x20 0x25 k
+
+right-row : ℕ → Bool
+right-row k = Bool·beq (isnt (eqb (row-of k) 0)) (in-ranges k)
+
+beq-eq : (a b : Bool) → Bool·beq a b ≡ true → a ≡ b
+beq-eq true true e = refl
+beq-eq true false e = sym e
+beq-eq false true e = e
+beq-eq false false e = refl
+
+-- computed over the whole byte
+pub kind-known : (k : ℕ) → k < 256 → isnt (eqb (row-of k) 0) ≡ in-ranges k
+unfolding right-row upto row-of kinds first in-ranges within _and_ _or_ isnt
+kind-known k h = beq-eq _ _ (upto-at 256 right-row refl k h)

@@ -1,0 +1,67 @@
+use Rattle.tables.specs.Wf.{vm-ok, cpus-ok}
+use Rattle.numbers.proofs.SearchLaws.{upto-none, upto-more, upto-no}
+use Rattle.numbers.specs.Search.{upto}
+use Rattle.numbers.specs.Sizes.{units}
+use borrow.Author.Tests.{not-true, not-false}
+use lib.ListN.{getD}
+use mathlib.Core.Bool.{true}
+use Prim.Native.Nat.{_≤_, _-_}
+use mathlib.Core.Path.{_≡_, refl, sym, ap, _∙_}
+use native.Mathlib.Omega.{arith}
+use borrow.Author.Needs.{needs}
+use Rattle.tables.proofs.wf.cpus_ok.Statement.{statement}
+use Rattle.tables.proofs.wf.cpus_ok.Tie as tie
+use Rattle.tables.proofs.wf.cpus_ok.Reads as reads
+use Rattle.tables.proofs.wf.cpus_ok.Lts as lts
+use Rattle.tables.proofs.state.who.Reads as who-reads
+use Rattle.tables.proofs.wf.vm_ok.Reads as vm-ok-reads
+
+abbrev Inv-loop : tie.InvT-loop
+Inv-loop present running u₀ u = (u ≤ units) × (upto u (λ v. vm-ok present (getD running v 0)) ≡ true)
+
+abbrev μ-loop : tie.MeasureT-loop
+μ-loop present running u₀ u = units - u
+
+loop-holds : tie.Need-loop-holds Inv-loop μ-loop
+unfolding units
+loop-holds c = (search needs, upto-none _)
+
+who-requires : tie.Need-who-requires Inv-loop μ-loop
+who-requires c κs = search needs
+
+vm-ok-requires : tie.Need-vm-ok-requires Inv-loop μ-loop
+vm-ok-requires c κs = search needs
+
+add-u : tie.Need-add-u Inv-loop μ-loop
+add-u c = search needs
+
+loop-less : tie.Need-loop-less Inv-loop μ-loop
+unfolding units
+loop-less c = search needs
+
+loop-again : tie.Need-loop-again Inv-loop μ-loop
+unfolding units
+loop-again c = (search needs, upto-more _ _ (c .before .before .before .before .loop .inv .1) (rw (← c .before .before .who .ensures, ← c .before .vm-ok .ensures) (not-false _ (c .if2 .left))))
+
+returns : tie.Need-returns Inv-loop μ-loop
+unfolding cpus-ok units
+returns c = let e : c .before .loop .u ≡ units = omega arith in sym (rw e at (c .before .loop .inv .1))
+
+returns-2 : tie.Need-returns-2 Inv-loop μ-loop
+unfolding cpus-ok units
+returns-2 c = sym (upto-no _ _ (c .before .before .before .before .loop .u) (omega arith) (rw (← c .before .before .who .ensures, ← c .before .vm-ok .ensures) (not-true _ (c .if2 .taken))))
+
+pub cpus-ok-spec : {M : Type 1} → statement M
+cpus-ok-spec =
+    tie.close
+    (tie.spec
+    Inv-loop
+    μ-loop
+    loop-holds
+    who-requires
+    vm-ok-requires
+    add-u
+    loop-less
+    loop-again
+    returns
+    returns-2)

@@ -1,0 +1,115 @@
+use Rattle.tables.proofs.LoopLaws.{Left, left-none, left-more, left-no, left-end, Beyond, beyond-none, beyond-more, beyond-hit, beyond-end}
+use Rattle.tables.specs.Wf.{same-as}
+use Rattle.tables.specs.Wants.{W, meets}
+use Rattle.tables.specs.Table.{has, uniq, live}
+use Rattle.numbers.proofs.Bools.{or-il, or-ir, or-no, isnt-i, isnt-no}
+use Rattle.numbers.specs.Tests.{_or_, isnt}
+use mathlib.Core.Logic.{⊎-elim}
+use borrow.Author.Tests.{eq-eqb, ne-eqb}
+use lib.ListN.{length, drop}
+use Prim.Native.Nat.{_≤_, _-_, _+_}
+use mathlib.Core.Path.{_≡_, refl, sym, ap, _∙_}
+use native.Mathlib.Omega.{arith}
+use borrow.Author.Needs.{needs}
+use Rattle.tables.proofs.wf.unique.Statement.{statement}
+use Rattle.tables.proofs.wf.unique.Tie as tie
+use Rattle.tables.proofs.wf.unique.Reads as reads
+use Rattle.tables.proofs.wf.unique.Lts as lts
+use Rattle.tables.proofs.search.hits.Reads as hits-reads
+use Rattle.tables.proofs.wf.same_as.Reads as same-as-reads
+
+abbrev Inv-loop : tie.InvT-loop
+Inv-loop rows table i word like j₀ j = (j ≤ length table) × Beyond W (meets like) table (i + 1) j
+
+abbrev μ-loop : tie.MeasureT-loop
+μ-loop rows table i word like j₀ j = length table - j
+
+abbrev Inv-rows : tie.InvT-rows
+Inv-rows rows table i₀ i = (i ≤ length table) × Left (λ x later. isnt (live W x) or isnt (has W (meets (same-as rows x)) later)) table i
+
+abbrev μ-rows : tie.MeasureT-rows
+μ-rows rows table i₀ i = length table - i
+
+rows-holds : tie.Need-rows-holds Inv-loop μ-loop Inv-rows μ-rows
+rows-holds c = (search needs, left-none _ _)
+
+mul-word : tie.Need-mul-word Inv-loop μ-loop Inv-rows μ-rows
+mul-word c = search needs
+
+shared-slice-read-word : tie.Need-shared-slice-read-word Inv-loop μ-loop Inv-rows μ-rows
+shared-slice-read-word c = search needs
+
+same-as-requires : tie.Need-same-as-requires Inv-loop μ-loop Inv-rows μ-rows
+same-as-requires c κs = search needs
+
+add-j : tie.Need-add-j Inv-loop μ-loop Inv-rows μ-rows
+add-j c = search needs
+
+loop-holds : tie.Need-loop-holds Inv-loop μ-loop Inv-rows μ-rows
+loop-holds c = (search needs, beyond-none _ _ _ _)
+
+mul-hits : tie.Need-mul-hits Inv-loop μ-loop Inv-rows μ-rows
+mul-hits c = search needs
+
+shared-slice-read-hits : tie.Need-shared-slice-read-hits Inv-loop μ-loop Inv-rows μ-rows
+shared-slice-read-hits c = search needs
+
+hits-requires : tie.Need-hits-requires Inv-loop μ-loop Inv-rows μ-rows
+hits-requires c κs = search needs
+
+add-j-2 : tie.Need-add-j-2 Inv-loop μ-loop Inv-rows μ-rows
+add-j-2 c = search needs
+
+loop-less : tie.Need-loop-less Inv-loop μ-loop Inv-rows μ-rows
+loop-less c = search needs
+
+loop-again : tie.Need-loop-again Inv-loop μ-loop Inv-rows μ-rows
+loop-again c = (search needs, beyond-more _ _ _ _ _ 0 (c .before .before .before .loop-test .left) (c .before .before .before .before .loop .inv .1) (sym (c .before .hits .ensures) ∙ c .if3 .left))
+
+add-i : tie.Need-add-i Inv-loop μ-loop Inv-rows μ-rows
+add-i c = search needs
+
+rows-less : tie.Need-rows-less Inv-loop μ-loop Inv-rows μ-rows
+rows-less c = search needs
+
+rows-again : tie.Need-rows-again Inv-loop μ-loop Inv-rows μ-rows
+rows-again c = (search needs, left-more _ _ _ 0 (c .before .before .if1 .left) (c .before .before .before .rows .inv .1)
+    (⊎-elim
+    (λ w. or-ir _ (isnt-i (rw (← w .1 .ensures) (beyond-end W _ _ _ _ (w .3 .taken) (w .2 .inv .1)))))
+    (λ w. or-il _ (isnt-i (isnt-no (eq-eqb _ _ (w .left)))))
+    (c .if2 .came)))
+
+returns : tie.Need-returns Inv-loop μ-loop Inv-rows μ-rows
+unfolding uniq
+returns c = sym (left-end _ _ _ (c .if1 .taken) (c .before .rows .inv .1))
+
+returns-2 : tie.Need-returns-2 Inv-loop μ-loop Inv-rows μ-rows
+unfolding uniq
+returns-2 c = sym (left-no _ _ _ 0 (c .before .before .before .before .before .before .before .before .if1 .left) (c .before .before .before .before .before .before .before .before .before .rows .inv .1)
+    (or-no (isnt-no (isnt-i (ne-eqb _ _ (c .before .before .before .before .before .before .if2 .taken)))) (isnt-no (rw (← c .before .before .before .before .before .same-as .ensures) (beyond-hit _ _ _ _ _ 0 (c .before .before .before .loop-test .left) (c .before .before .before .before .loop .inv .1) (sym (c .before .hits .ensures) ∙ c .if3 .taken))))))
+
+pub unique-spec : {M : Type 1} → statement M
+unique-spec =
+    tie.close
+    (tie.spec
+    Inv-loop
+    μ-loop
+    Inv-rows
+    μ-rows
+    rows-holds
+    mul-word
+    shared-slice-read-word
+    same-as-requires
+    add-j
+    loop-holds
+    mul-hits
+    shared-slice-read-hits
+    hits-requires
+    add-j-2
+    loop-less
+    loop-again
+    add-i
+    rows-less
+    rows-again
+    returns
+    returns-2)

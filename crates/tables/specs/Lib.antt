@@ -1,0 +1,4 @@
+pub mod Table
+pub mod Wants
+pub mod State
+pub mod Wf

@@ -1,0 +1,181 @@
+// Tables of words, lent as slices of any length: one search, and what stands on it. A free place is 0.
+ghost use mathlib.Core.Path.{_≡_};
+ghost use lib.Dec.{eqb};
+ghost use lib.ListN.{set};
+ghost use Rattle.numbers.specs.Search.{first};
+ghost use Rattle.tables.specs.Table.{hit, find, has, full, no-room, place, seat, put, cleared, wipe};
+ghost use Rattle.tables.specs.Wants.{W, ends-at, joins, meets, invalidated};
+use numbers::entries;
+
+// What is looked for.
+pub enum Want {
+    // the key of an entry: unit, guest and guest page
+    Key(u32),
+    // a guest's entries for a guest page, on every unit
+    Everywhere(u8, u16),
+    // entries that lead to a page, or pairs on it
+    Page(u16),
+    // a guest's entries
+    Guest(u8),
+    // a guest's entries that lead to a page
+    Maps(u8, u16),
+    // the pair of two guests, in either order, on a page
+    Pair(u8, u8, u16),
+    // pairs that have the guest as an end
+    End(u8),
+    // pairs that have the guest as an end, on a page
+    Shared(u8, u16),
+}
+
+// ── one row ──
+fn ends_at(word: u32, guest: u8) -> bool
+    ensures { λ r. ⌜ r ≡ ends-at guest word ⌝ }
+{
+    (guest == entries::left_in(word)) | (guest == entries::right_in(word))
+}
+
+fn joins(word: u32, left: u8, right: u8) -> bool
+    ensures { λ r. ⌜ r ≡ joins left right word ⌝ }
+{
+    let l = entries::left_in(word);
+    let r = entries::right_in(word);
+    ((left == l) & (right == r)) | ((left == r) & (right == l))
+}
+
+fn meets(word: u32, want: Want) -> bool
+    ensures { λ r. ⌜ r ≡ meets want word ⌝ }
+{
+    match want {
+        Want::Key(k) => k == entries::key_in(word),
+        Want::Everywhere(g, v) => (g == entries::guest_in(word)) & (v == entries::gpage_in(word)),
+        Want::Page(p) => p == entries::page_in(word),
+        Want::Guest(g) => g == entries::guest_in(word),
+        Want::Maps(g, p) => (g == entries::guest_in(word)) & (p == entries::page_in(word)),
+        Want::Pair(l, r, p) => (p == entries::page_in(word)) & joins(word, l, r),
+        Want::End(g) => ends_at(word, g),
+        Want::Shared(g, p) => (p == entries::page_in(word)) & ends_at(word, g),
+    }
+}
+
+// A live row that is looked for.
+pub fn hits(word: u32, want: Want) -> bool
+    ensures { λ r. ⌜ r ≡ hit W (meets want) word ⌝ }
+{
+    (word != 0) & meets(word, want)
+}
+
+// ── searches ──
+// The place of the first row that is looked for, or the length.
+pub fn first(rows: &[u32], want: Want) -> usize
+    ensures { λ r. ⌜ r ≡ first (hit W (meets want)) (now (rows .entry)) ⌝ }
+{
+    let mut i: usize = 0;
+    while i < rows.len() {
+        if hits(rows[i], want) {
+            return i;
+        }
+        i += 1;
+    }
+    i
+}
+
+// The lowest free place, or the length.
+pub fn free(rows: &[u32]) -> usize
+    ensures { λ r. ⌜ r ≡ first (W .free) (now (rows .entry)) ⌝ }
+{
+    let mut i: usize = 0;
+    loop {
+        if rows.len() <= i {
+            break i;
+        }
+        if rows[i] == 0 {
+            break i;
+        }
+        i += 1;
+    }
+}
+
+// The row that is looked for, or 0.
+pub fn find(rows: &[u32], want: Want) -> u32
+    ensures { λ r. ⌜ r ≡ find W (meets want) (now (rows .entry)) ⌝ }
+{
+    let at = first(rows, want);
+    if at < rows.len() { rows[at] } else { 0 }
+}
+
+pub fn has(rows: &[u32], want: Want) -> bool
+    ensures { λ r. ⌜ r ≡ has W (meets want) (now (rows .entry)) ⌝ }
+{
+    first(rows, want) < rows.len()
+}
+
+// Every place is live.
+pub fn full(rows: &[u32]) -> bool
+    ensures { λ r. ⌜ r ≡ full W (now (rows .entry)) ⌝ }
+{
+    rows.len() <= free(rows)
+}
+
+// 15: what is looked for is absent and every place is live.
+pub fn no_room(rows: &[u32], want: Want) -> bool
+    ensures { λ r. ⌜ r ≡ no-room W (meets want) (now (rows .entry)) ⌝ }
+{
+    !has(rows, want) & full(rows)
+}
+
+// ── changes ──
+fn set_row(rows: &mut [u32], at: usize, word: u32)
+    ensures { λ r. ⌜ now (rows .exit) ≡ set (now (rows .entry)) at word ⌝ }
+{
+    if at < rows.len() {
+        rows[at] = word;
+    }
+}
+
+// A new row, at the lowest free place.
+pub fn place(rows: &mut [u32], word: u32)
+    ensures { λ r. ⌜ now (rows .exit) ≡ place W word (now (rows .entry)) ⌝ }
+{
+    let at = free(rows);
+    set_row(rows, at, word);
+}
+
+// Where a row goes: over the one that is looked for, else to the lowest free place.
+fn seat(rows: &[u32], want: Want) -> usize
+    ensures { λ r. ⌜ r ≡ seat W (meets want) (now (rows .entry)) ⌝ }
+{
+    let at = first(rows, want);
+    if at < rows.len() { at } else { free(rows) }
+}
+
+// Over the row that is looked for, else at the lowest free place.
+pub fn put(rows: &mut [u32], want: Want, word: u32)
+    ensures { λ r. ⌜ now (rows .exit) ≡ put W (meets want) word (now (rows .entry)) ⌝ }
+{
+    let at = seat(rows, want);
+    set_row(rows, at, word);
+}
+
+fn cleared(word: u32, want: Want) -> u32
+    ensures { λ r. ⌜ r ≡ cleared W (meets want) word ⌝ }
+{
+    if hits(word, want) { 0 } else { word }
+}
+
+// Every row that is looked for is freed.
+pub fn wipe(rows: &mut [u32], want: Want)
+    ensures { λ r. ⌜ now (rows .exit) ≡ wipe W (meets want) (now (rows .entry)) ⌝ }
+{
+    let mut i: usize = 0;
+    while i < rows.len() {
+        rows[i] = cleared(rows[i], want);
+        i += 1;
+    }
+}
+
+// The guest's entries for the guest page leave a TLB, on every unit.
+pub fn invalidate(tlb: &mut [u32], guest: u8, gpage: u16)
+    ensures { λ r. ⌜ now (tlb .exit) ≡ invalidated guest gpage (now (tlb .entry)) ⌝ }
+{
+    wipe(tlb, Want::Everywhere(guest, gpage));
+}
