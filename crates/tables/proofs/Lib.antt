@@ -1,3 +1,6 @@
 pub mod TableLaws
+pub mod WantLaws
 pub mod LoopLaws
 pub mod WfLaws
+pub mod WfAgrees
+pub mod BootWf

@@ -83,7 +83,7 @@ module _ {A : Type 0} where
       (λ t. rw (eqb-true k i t) (getD-set-same xs i v d h ∙ e))
       (λ t. let z : k ≡ i → ⊥ = eqb-false k i t in getD-set-other xs i k v d z ∙ q k (omega arith))
 
-  length-tabulate : (n : ℕ) (f : ℕ → A) → length (tabulate n f) ≡ n
+  pub length-tabulate : (n : ℕ) (f : ℕ → A) → length (tabulate n f) ≡ n
   unfolding tabulate
   length-tabulate zero f = refl
   length-tabulate (suc n) f = rw length-append (let h : length (tabulate n f) ≡ n = length-tabulate n f in omega arith)
