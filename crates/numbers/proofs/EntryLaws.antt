@@ -1,7 +1,7 @@
 -- Entries and pairs as words: what is put into a word comes out of it again, and the other way round.
-use mathlib.Core.Path.{_≡_, refl, sym, ap, _∙_}
-use Prim.Native.Nat.{ℕ, _+_, _*_, _/_, _%_, _≤_, _<_}
-use native.Mathlib.Nat.{mod-lt, mod-eq-of-lt, div-eq-of-lt, add-mul-mod-self-left, add-mul-div-left, mod-add-div, zero-add}
+use mathlib.Core.Path.{_≡_, ap, _∙_}
+use Prim.Native.Nat.{ℕ, _+_, _*_, _/_, _%_, _<_}
+use native.Mathlib.Nat.{mod-eq-of-lt, div-eq-of-lt, add-mul-mod-self-left, add-mul-div-left, zero-add}
 use native.Mathlib.Omega.{arith}
 use Rattle.numbers.specs.Sizes.{guests, units, pages, gpages, accesses, access-span, page-span, gpage-span, guest-span, unit-span}
 use Rattle.numbers.specs.Entries.{key-of, entry, access-in, page-in, key-in, gpage-in, guest-in, tag-in, unit-in, at-unit, pair, right-in, left-in, pair-tag-in}

@@ -4,3 +4,4 @@ pub mod RulesLaws
 pub mod AddressLaws
 pub mod EntryLaws
 pub mod FrameLaws
+pub mod FrameCases

@@ -1,12 +1,11 @@
 -- Refusals in order: the answer is 0 or a number whose condition holds, and it is the lowest such number.
-use mathlib.Core.Path.{_≡_, refl, sym, _∙_}
+use mathlib.Core.Path.{_≡_, refl}
 use mathlib.Core.Bool.{Bool, true, false}
 use mathlib.Core.Logic.{_⊎_, inl, inr, ⊎-elim}
 use Prim.Native.Nat.{ℕ, _≤_, _<_}
 use native.Mathlib.Omega.{arith}
 use Rattle.numbers.specs.Rules.{Rules, least}
 use Rattle.numbers.specs.Rules.Rules.{accept, _⇒_∣_}
-use Rattle.numbers.proofs.Bools.{clash}
 
 -- the number n applies: its condition holds
 pub data Applies (n : ℕ) : Rules → Type 0 where

@@ -6,7 +6,7 @@ use lib.Dec.{eqb, leb}
 use lib.ListN.{getD}
 use Rattle.numbers.specs.Sizes.{guests, units, pages, gpages, accesses, guest-words}
 use Rattle.numbers.specs.Tests.{_and_, _or_, isnt}
-use Rattle.numbers.specs.Rules.{Rules, least}
+use Rattle.numbers.specs.Rules.{least}
 use Rattle.numbers.specs.Rules.Rules.{accept, _⇒_∣_}
 use Rattle.numbers.specs.Search.{first}
 use Rattle.numbers.specs.declared.frames.Action.{Action}
@@ -127,8 +127,8 @@ unfoldable pub frame-number : Action → ℕ
 frame-number a =
     let r = row-of (a .kind) in
     least (
-      eqb r 0 ⇒ 3 ∣
-      stray r a ⇒ 3 ∣
-      beyond r a ⇒ 4 ∣
-      accept
+    eqb r 0 ⇒ 3 ∣
+    stray r a ⇒ 3 ∣
+    beyond r a ⇒ 4 ∣
+    accept
     )

@@ -4,7 +4,6 @@ use mathlib.Core.Bool.{Bool, not, _&&_, _||_}
 
 infixr 35 _and_
 infixr 30 _or_
-
 unfoldable pub _and_ : Bool → Bool → Bool
 a and b = a && b
 

@@ -4,9 +4,13 @@ ghost use Rattle.numbers.specs.Entries.{key-of, entry, at-unit, access-i
 
 // How many values each field has room for, from the lowest field up.
 const ACCESSES: u32 = 4;
+
 const PAGES: u32 = 1024;
+
 const GPAGES: u32 = 256;
+
 const GUESTS: u32 = 8;
+
 const UNITS: u32 = 4;
 
 // What stands above page and access in an entry: unit (0 in a map), guest and guest page, and a 1 on top that says live.
@@ -69,7 +73,13 @@ pub fn tag_in(word: u32) -> u32
 pub fn at_unit(unit: u8, word: u32) -> u32
     ensures { λ r. ⌜ r ≡ at-unit unit word ⌝ }
 {
-    entry(unit, guest_in(word), gpage_in(word), page_in(word), access_in(word))
+    entry(
+        unit,
+        guest_in(word),
+        gpage_in(word),
+        page_in(word),
+        access_in(word),
+    )
 }
 
 pub fn readable(word: u32) -> bool
@@ -89,8 +99,7 @@ pub fn pair(left: u8, right: u8, page: u16, access: u8) -> u32
     ensures { λ r. ⌜ r ≡ pair left right page access ⌝ }
 {
     (access as u32)
-        + ACCESSES
-            * ((page as u32) + PAGES * ((right as u32) + GUESTS * ((left as u32) + GUESTS)))
+        + ACCESSES * ((page as u32) + PAGES * ((right as u32) + GUESTS * ((left as u32) + GUESTS)))
 }
 
 pub fn right_in(word: u32) -> u8

@@ -20,18 +20,27 @@ pub struct Action {
 
 // The fields that a kind uses, a flag each. The second and the address say in which way.
 const GUEST: u16 = 1;
+
 const UNIT: u16 = 2;
+
 const RIGHT: u16 = 4;
+
 const ACCESS: u16 = 8;
+
 const ADDRESS: u16 = 16;
+
 const GPAGE: u16 = 32;
+
 const PAGE: u16 = 64;
+
 const WORD: u16 = 128;
 
 // A row has its kind above the flags.
 const KIND: u16 = 256;
 
-const KINDS: [u16; 23] = [
+const ROWS: usize = 23;
+
+const KINDS: [u16; ROWS] = [
     0x01 * KIND + GUEST + UNIT + ADDRESS, // Read
     0x02 * KIND + GUEST + UNIT + ADDRESS + WORD, // Write
     0x03 * KIND + GUEST + UNIT + WORD, // HyperCall
@@ -88,7 +97,7 @@ fn row_of(kind: u8) -> u16
     ensures { λ r. ⌜ r ≡ row-of kind ⌝ }
 {
     let mut i: usize = 0;
-    while i < 23 {
+    while i < ROWS {
         let row = KINDS[i];
         if (kind as u16) == row / KIND {
             return row;
@@ -108,10 +117,15 @@ pub fn rule(bad: bool, number: u8, later: u8) -> u8
 impl Action {
     // How many there are: a number is in range below its count.
     pub const GUESTS: u8 = 8;
+
     pub const UNITS: u8 = 4;
+
     pub const ACCESSES: u8 = 4;
+
     pub const GPAGES: u16 = 256;
+
     pub const PAGES: u16 = 64;
+
     pub const PAGE_WORDS: u16 = 16;
 
     // The action that 16 bytes say. Bytes that are not there count as 0.
@@ -143,8 +157,7 @@ impl Action {
         (!(row / GUEST % 2 == 1) & (self.guest != 0))
             | ((!((row / UNIT % 2 == 1) | (row / RIGHT % 2 == 1)) & (self.second != 0))
                 | ((!(row / ACCESS % 2 == 1) & (self.access != 0))
-                    | ((!((row / ADDRESS % 2 == 1) | (row / GPAGE % 2 == 1))
-                        & (self.address != 0))
+                    | ((!((row / ADDRESS % 2 == 1) | (row / GPAGE % 2 == 1)) & (self.address != 0))
                         | ((!(row / PAGE % 2 == 1) & (self.page != 0))
                             | (!(row / WORD % 2 == 1) & (self.word != 0))))))
     }

@@ -4,3 +4,4 @@ pub mod LoopLaws
 pub mod WfLaws
 pub mod WfAgrees
 pub mod BootWf
+pub mod SourceWf

@@ -9,7 +9,7 @@ use native.Mathlib.Numerals.{add-one}
 use native.Mathlib.Omega.{arith}
 use lib.Dec.{eqb}
 use borrow.Author.Tests.{eqb-true, eqb-false}
-use lib.ListN.{length, getD, drop, take, set, length-map, length-set, length-append, List·getD-append, drop-of-length-le}
+use lib.ListN.{length, getD, drop, take, set, length-map, length-append, List·getD-append, drop-of-length-le}
 use lib.Seq.{drop-cons, take-all, length-take-le, getD-at, getD-set-same, getD-set-other, ext-getD}
 use Rattle.numbers.specs.Tests.{_and_}
 use Rattle.numbers.proofs.Bools.{split, and-no-l}
@@ -94,9 +94,9 @@ module _ {A : Type 0} where
   tabulate-at (suc n) f d k h = split (eqb k n)
       (λ t. rw (eqb-true k n t) (getD-at (tabulate n f) (f n) [] d n (length-tabulate n f)))
       (λ t.
-          let z : k ≡ n → ⊥ = eqb-false k n t in
-          let l : length (tabulate n f) ≡ n = length-tabulate n f in
-          List·getD-append (tabulate n f) (f n ∷ []) d k (omega arith) ∙ tabulate-at n f d k (omega arith))
+      let z : k ≡ n → ⊥ = eqb-false k n t in
+      let l : length (tabulate n f) ≡ n = length-tabulate n f in
+      List·getD-append (tabulate n f) (f n ∷ []) d k (omega arith) ∙ tabulate-at n f d k (omega arith))
 
   pub filled-end : (f : ℕ → A) (d : A) (xs : List A) (n : ℕ) → length xs ≡ n → Filled f d xs n → xs ≡ tabulate n f
   unfolding Filled

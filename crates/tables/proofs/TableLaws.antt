@@ -1,15 +1,13 @@
 -- The laws of the bounded table, over any row type and any test of a key.
-use mathlib.Core.Path.{_≡_, refl, sym, _∙_, ap, subst}
+use mathlib.Core.Path.{_≡_, refl, sym, _∙_, subst}
 use mathlib.Core.Bool.{Bool, true, false}
 use mathlib.Core.List.{List, [], _∷_, map}
 use mathlib.Core.Logic.{_↔_}
 use Prim.Native.Nat.{ℕ, zero, suc, _≤_, _<_}
-use native.Mathlib.Nat.{le-of-suc-le-suc, not-suc-le-zero}
 use native.Mathlib.Omega.{arith}
-use lib.Dec.{ltb, leb, leb·suc-suc}
+use lib.Dec.{ltb, leb·suc-suc}
 use lib.ListN.{length, getD, set, length-set, length-map, List·getD-eq-default, List·getD-map}
-use borrow.Author.Tests.{lt-ltb, ltb-true, ltb-false, leb-true, leb-false, lt-leb}
-use Rattle.numbers.specs.Tests.{_and_, isnt}
+use borrow.Author.Tests.{lt-ltb, ltb-true, ltb-false, leb-false, lt-leb}
 use Rattle.numbers.specs.Search.{first}
 use Rattle.numbers.proofs.Bools.{split, clash, not-true, bool-ext, and-l, and-r, and-i, and-no-l, and-no-r, isnt-true, isnt-i, isnt-no, implies, implied}
 use Rattle.numbers.proofs.SearchLaws.{first-hit, first-skip, first-passes, first-lowest}
@@ -179,8 +177,8 @@ module _ {A : Type 0} (K : Shape A) where
   find-set-same k r (x ∷ t) (suc i) on l f = split (hit K k x)
       (λ h. let z : first (hit K k) (x ∷ t) ≡ 0 = first-hit (hit K k) x t h in absurd (omega arith))
       (λ h.
-          let z : first (hit K k) (x ∷ t) ≡ suc (first (hit K k) t) = first-skip (hit K k) x t h in
-          find-skip k x (set t i r) h ∙ find-set-same k r t i on (omega arith) (omega arith))
+      let z : first (hit K k) (x ∷ t) ≡ suc (first (hit K k) t) = first-skip (hit K k) x t h in
+      find-skip k x (set t i r) h ∙ find-set-same k r t i on (omega arith) (omega arith))
 
   -- a row put over a free place hides nothing
   pub has-set-free : (k : A → Bool) (r : A) (t : List A) (i : ℕ) → K .free (getD t i (K .zero)) ≡ true → has K k t ≡ true → has K k (set t i r) ≡ true
@@ -297,7 +295,7 @@ module _ {A : Type 0} (K : Shape A) where
         let l : first (hit K k) t < length t = ltb-true _ _ h in
         let w : length (wipe K k t) ≡ length t = length-wipe k t in
         let f : first (K .free) (wipe K k t) ≤ first (hit K k) t = first-lowest (K .free) (wipe K k t) (K .zero) _ (omega arith)
-            (rw (wipe-at k t (first (hit K k) t), cleared-hit k _ (find-passes k t h)) dead) in
+        (rw (wipe-at k t (first (hit K k) t), cleared-hit k _ (find-passes k t h)) dead) in
         lt-leb (length (wipe K k t)) (first (K .free) (wipe K k t)) (omega arith)
 
     -- ── no key stands twice ──

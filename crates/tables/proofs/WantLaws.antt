@@ -2,17 +2,21 @@
 use mathlib.Core.Path.{_≡_, refl, sym, ap, _∙_}
 use mathlib.Core.Bool.{true}
 use mathlib.Core.Logic.{_⊎_, inl, inr, ⊎-elim, _↔_}
-use Prim.Native.Nat.{ℕ}
-use lib.Dec.{eqb}
-use borrow.Author.Tests.{eqb-true, eq-eqb}
+use Prim.Native.Nat.{ℕ, _<_}
+use native.Mathlib.Omega.{arith}
+use borrow.Author.Tests.{eqb-true, eq-eqb, ne-eqb}
 use Rattle.numbers.specs.Entries.{key-in, guest-in, gpage-in, page-in, left-in, right-in}
-use Rattle.numbers.proofs.Bools.{and-l, and-r, and-i, or-e, or-il, or-ir}
-use Rattle.tables.specs.Wants.{W, has-key, of-guest, of-gpage, to-page, ends-at, joins, everywhere, shared-by, same-entry, same-pair}
+use Rattle.numbers.proofs.Bools.{and-l, and-r, and-i, or-e, or-il, or-ir, isnt-i}
+use Rattle.tables.specs.Table.{live}
+use Rattle.tables.specs.Wants.{W, has-key, of-guest, of-gpage, to-page, ends-at, joins, same-entry, same-pair}
 use Rattle.tables.proofs.TableLaws.{Same}
 
 -- ── a word that is 0 is free ──
 pub zero-free : W .free (W .zero) ≡ true
 zero-free = refl
+
+pub live-pos : (w : ℕ) → 0 < w → live W w ≡ true
+live-pos w h = isnt-i (ne-eqb w 0 (λ (e : w ≡ 0). omega arith))
 
 -- ── one field ──
 pub has-key-agrees : (k w : ℕ) → has-key k w ≡ true ↔ (k ≡ key-in w)

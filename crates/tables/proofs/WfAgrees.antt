@@ -1,12 +1,12 @@
 -- The test `wf` says yes exactly where the record `Wf` holds.
-use mathlib.Core.Path.{_≡_, refl}
+use mathlib.Core.Path.{_≡_}
 use mathlib.Core.Bool.{Bool, true, false}
 use mathlib.Core.List.{List}
 use mathlib.Core.Logic.{_↔_}
-use Prim.Native.Nat.{ℕ, _≤_, _<_}
+use Prim.Native.Nat.{ℕ, _≤_}
 use native.Mathlib.Omega.{arith}
 use lib.Dec.{ltb}
-use lib.ListN.{getD, length, List·getD-eq-default}
+use lib.ListN.{length, List·getD-eq-default}
 use borrow.Author.Tests.{eqb-true, eq-eqb, ltb-true, ltb-false}
 use Rattle.numbers.specs.Sizes.{units, pages}
 use Rattle.numbers.specs.Search.{upto}
@@ -16,7 +16,7 @@ use Rattle.numbers.proofs.SearchLaws.{upto-at, upto-i}
 use Rattle.tables.specs.Table.{Each, each, Uniq}
 use Rattle.tables.specs.Wants.{W, same-entry, same-pair}
 use Rattle.tables.specs.State.{nobody, holder-of, dma-of, in-region, running-on, map-of, tlb-of, held-on}
-use Rattle.tables.specs.Wf.{EntryWf, MapRowWf, PairWf, Sized, Wf, home-of, vm-ok, page-ok, pages-ok, cpus-ok, entry-ok, map-row-ok, pair-ok, cached, walk-ok, in-order, wf}
+use Rattle.tables.specs.Wf.{EntryWf, MapRowWf, Sized, Wf, home-of, vm-ok, page-ok, pages-ok, cpus-ok, cached, walk-ok, in-order, wf}
 use Rattle.tables.specs.declared.state.Tables.{Tables}
 use Rattle.tables.specs.declared.state.Side.{Side}
 use Rattle.tables.specs.declared.state.Side.the-variants.{Cpu, Iommu}
@@ -85,7 +85,7 @@ module _ (m : Tables) (s : Sized m) where
           page-agrees _ _ _ _ .1 (rw (
             List·getD-eq-default (m .holder) nobody {n = p} (omega arith),
             List·getD-eq-default (m .dma) nobody {n = p} (omega arith),
-            List·getD-eq-default (m .region) false {n = p} (omega arith)
+            List·getD-eq-default (m .region) false {n = p} (omega arith),
           ) (no-guest-page (m .present) nobody false (omega arith)))
 
   cpus-agree : cpus-ok (m .present) (m .running) ≡ true ↔ ((u : ℕ) → vm-ok (m .present) (running-on m u) ≡ true)

@@ -76,8 +76,8 @@ vm-agrees present h = (
   λ e. ⊎-elim
       (λ z. let n : h ≡ 0 = eqb-true h 0 z in (λ g q. absurd (omega arith), λ q. omega arith))
       (λ z.
-          let l : 2 ≤ h = leb-true 2 h (and-l _ _ z) in
-          (λ g q. let i : h - 2 ≡ g = omega arith in subst (λ (n : ℕ). getD present n false ≡ true) i (and-r _ _ z), λ q. omega arith))
+      let l : 2 ≤ h = leb-true 2 h (and-l _ _ z) in
+      (λ g q. let i : h - 2 ≡ g = omega arith in subst (λ (n : ℕ). getD present n false ≡ true) i (and-r _ _ z), λ q. omega arith))
       (or-e _ _ e),
   λ f. split (leb 2 h)
       (λ l. let k : 2 ≤ h = leb-true 2 h l in or-ir _ (and-i l (f .0 (h - 2) (omega arith))))
@@ -115,9 +115,9 @@ page-agrees present h d shared = (
         no-hypervisor = vm-agrees present d .0 (and-l _ _ e₁) .1;
         one = λ g k p q.
             let same : h ≡ d = eqb-true h d (⊎-elim
-                (λ n. clash (and-i (guest-is h g p) (guest-is d k q)) (isnt-true _ n))
-                (λ n. n)
-                (or-e _ _ (and-r _ _ e₂))) in
+            (λ n. clash (and-i (guest-is h g p) (guest-is d k q)) (isnt-true _ n))
+            (λ n. n)
+            (or-e _ _ (and-r _ _ e₂))) in
             omega arith;
         not-owned = λ g p. not-true _ (λ r. clash (and-i r (or-il _ (guest-is h g p))) apart);
         not-dma-owned = λ g p. not-true _ (λ r. clash (and-i r (or-ir _ (guest-is d g p))) apart);
@@ -132,10 +132,10 @@ page-agrees present h d shared = (
       (or-e _ _ (and-r _ _ z)))))
       (split (a-guest h and a-guest d)
       (λ z.
-          let i : guest-of h ≡ guest-of d = w .one _ _ (is-guest h (and-l _ _ z)) (is-guest d (and-r _ _ z)) in
-          let p : h ≡ guest (guest-of h) = is-guest h (and-l _ _ z) in
-          let q : d ≡ guest (guest-of d) = is-guest d (and-r _ _ z) in
-          or-ir _ (eq-eqb h d (p ∙ ap (λ (n : ℕ). guest n) i ∙ sym q)))
+      let i : guest-of h ≡ guest-of d = w .one _ _ (is-guest h (and-l _ _ z)) (is-guest d (and-r _ _ z)) in
+      let p : h ≡ guest (guest-of h) = is-guest h (and-l _ _ z) in
+      let q : d ≡ guest (guest-of d) = is-guest d (and-r _ _ z) in
+      or-ir _ (eq-eqb h d (p ∙ ap (λ (n : ℕ). guest n) i ∙ sym q)))
       (λ z. or-il _ (isnt-i z))))),
 )
 

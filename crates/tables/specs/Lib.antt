@@ -2,3 +2,4 @@ pub mod Table
 pub mod Wants
 pub mod State
 pub mod Wf
+pub mod Views

@@ -1,6 +1,5 @@
 // Tables of words, lent as slices of any length: one search, and what stands on it. A free place is 0.
 ghost use mathlib.Core.Path.{_≡_};
-ghost use lib.Dec.{eqb};
 ghost use lib.ListN.{set};
 ghost use Rattle.numbers.specs.Search.{first};
 ghost use Rattle.tables.specs.Table.{hit, find, has, full, no-room, place, seat, put, cleared, wipe};

@@ -1,14 +1,14 @@
-// The tables: one flat struct of number arrays, by value. Who holds or runs is 0 for nobody, 1 for the hypervisor, 2 + g for
-// guest g.
+// The tables: one flat struct of number arrays, by value. Who holds or runs is a number too: nobody, the hypervisor, or a guest
+// counted from `Tables::GUEST` on.
 ghost use mathlib.Core.Path.{_≡_};
 ghost use mathlib.Core.Bool.{false};
 ghost use lib.Dec.{eqb};
 ghost use lib.ListN.{getD};
-ghost use Rattle.tables.specs.State.{guest, effective-entry, lookup, page-is-quiescent, iommu-page-is-quiescent, reach, empty, boot};
-use numbers::entries;
-use numbers::frames::Action;
+ghost use Rattle.tables.specs.State.{guest, guest-of, effective-entry, lookup, page-is-quiescent, iommu-page-is-quiescent, reach, empty, boot};
 use crate::search;
 use crate::search::Want;
+use numbers::entries;
+use numbers::frames::Action;
 
 pub struct Tables {
     // stage-2 entries, and the CPUs' copies of them
@@ -55,7 +55,18 @@ pub fn who(list: &[u8], at: usize) -> u8
 pub fn is_guest(who: u8, g: u8) -> bool
     ensures { λ r. ⌜ r ≡ eqb who (guest g) ⌝ }
 {
-    (who as u16) == 2 + (g as u16)
+    (who as u16) == (Tables::GUEST as u16) + (g as u16)
+}
+
+// Which guest a holder's number says.
+pub fn guest_of(who: u8) -> usize
+    ensures { λ r. ⌜ r ≡ guest-of who ⌝ }
+{
+    if Tables::GUEST <= who {
+        (who - Tables::GUEST) as usize
+    } else {
+        0
+    }
 }
 
 // ── translation ──
@@ -74,7 +85,11 @@ pub fn lookup<'a>(map: &'a [u32], tlb: &'a [u32], unit: u8, guest: u8, gpage: u1
     ensures { λ r. ⌜ r ≡ lookup (now (map .entry)) (now (tlb .entry)) unit guest gpage ⌝ }
 {
     let word = effective_entry(map, tlb, unit, guest, gpage);
-    if word != 0 { Found::Entry(word) } else { Found::Nothing }
+    if word != 0 {
+        Found::Entry(word)
+    } else {
+        Found::Nothing
+    }
 }
 
 // May a guest's entries on a side lead to a page: the side's holder may, and who shares it, or whoever asks for the region.
@@ -112,11 +127,23 @@ pub fn page_is_quiescent<'a>(map: &'a [u32], tlb: &'a [u32], pairs: &'a [u32], p
 
 impl Tables {
     pub const GUESTS: usize = Action::GUESTS as usize;
+
     pub const UNITS: usize = Action::UNITS as usize;
+
     pub const PAGES: usize = Action::PAGES as usize;
+
     pub const MAP_ROOM: usize = 64;
+
     pub const TLB_ROOM: usize = 32;
+
     pub const PAIR_ROOM: usize = 16;
+
+    // Who holds or runs: guest g is GUEST + g.
+    pub const NOBODY: u8 = 0;
+
+    pub const HYPERVISOR: u8 = 1;
+
+    pub const GUEST: u8 = 2;
 
     pub fn empty() -> Tables
         ensures { λ r. ⌜ r ≡ empty ⌝ }
@@ -127,11 +154,11 @@ impl Tables {
             io_map: [0; Tables::MAP_ROOM],
             io_tlb: [0; Tables::TLB_ROOM],
             pairs: [0; Tables::PAIR_ROOM],
-            holder: [0; Tables::PAGES],
-            dma: [0; Tables::PAGES],
+            holder: [Tables::NOBODY; Tables::PAGES],
+            dma: [Tables::NOBODY; Tables::PAGES],
             region: [false; Tables::PAGES],
             present: [false; Tables::GUESTS],
-            running: [0; Tables::UNITS],
+            running: [Tables::NOBODY; Tables::UNITS],
         }
     }
 
@@ -139,7 +166,7 @@ impl Tables {
     pub fn boot(hypervisor: u64, region: u64) -> Tables
         ensures { λ r. ⌜ r ≡ boot hypervisor region ⌝ }
     {
-        let mut holders = [0u8; Tables::PAGES];
+        let mut holders = [Tables::NOBODY; Tables::PAGES];
         let mut shared = [false; Tables::PAGES];
         let mut h = hypervisor;
         let mut r = region;

@@ -1,18 +1,15 @@
 // Good order as a yes or no, over any tables: refusal 2.
 ghost use mathlib.Core.Path.{_≡_};
-ghost use lib.ListN.{getD};
-ghost use Rattle.numbers.specs.Search.{upto};
 ghost use Rattle.tables.specs.Table.{each, uniq};
 ghost use Rattle.tables.specs.Wants.{W, meets};
-ghost use Rattle.tables.specs.State.{guest-of};
 ghost use Rattle.tables.specs.Wf.{vm-ok, page-ok, pages-ok, cpus-ok, entry-ok, map-row-ok, pair-ok, row-ok, same-as, cached, walk-ok, in-order, wf};
-use numbers::entries;
-use numbers::frames::Action;
 use crate::search;
 use crate::search::Want;
 use crate::state;
 use crate::state::Side;
 use crate::state::Tables;
+use numbers::entries;
+use numbers::frames::Action;
 
 // What the rows of a table are.
 pub enum Rows {
@@ -22,27 +19,20 @@ pub enum Rows {
 }
 
 // ── one place or row ──
-// Which guest a holder's number says.
-pub fn guest_of(who: u8) -> usize
-    ensures { λ r. ⌜ r ≡ guest-of who ⌝ }
-{
-    if 2 <= who { (who - 2) as usize } else { 0 }
-}
-
 // Nobody, or a guest that is present.
 fn vm_ok(present: &[bool], who: u8) -> bool
     ensures { λ r. ⌜ r ≡ vm-ok (now (present .entry)) who ⌝ }
 {
-    (who == 0) | ((2 <= who) & state::flag(present, guest_of(who)))
+    (who == Tables::NOBODY) | ((Tables::GUEST <= who) & state::flag(present, state::guest_of(who)))
 }
 
 fn page_ok(present: &[bool], holder: u8, dma: u8, region: bool) -> bool
     ensures { λ r. ⌜ r ≡ page-ok (now (present .entry)) holder dma region ⌝ }
 {
-    let held = (holder == 1) | vm_ok(present, holder);
+    let held = (holder == Tables::HYPERVISOR) | vm_ok(present, holder);
     let lent = vm_ok(present, dma);
-    let own = 2 <= holder;
-    let io = 2 <= dma;
+    let own = Tables::GUEST <= holder;
+    let io = Tables::GUEST <= dma;
     held & (lent & (!(region & (own | io)) & (!(own & io) | (holder == dma))))
 }
 
@@ -124,12 +114,7 @@ fn same_as(rows: Rows, word: u32) -> Want
 }
 
 // ── whole tables: each loop is left at the first place that settles the answer ──
-fn pages_ok<'a>(
-    present: &'a [bool],
-    holder: &'a [u8],
-    dma: &'a [u8],
-    region: &'a [bool],
-) -> bool
+fn pages_ok<'a>(present: &'a [bool], holder: &'a [u8], dma: &'a [u8], region: &'a [bool]) -> bool
     ensures { λ r. ⌜ r ≡ pages-ok (now (present .entry)) (now (holder .entry)) (now (dma .entry)) (now (region .entry)) ⌝ }
 {
     let mut p: usize = 0;

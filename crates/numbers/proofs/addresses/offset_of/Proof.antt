@@ -1,12 +1,9 @@
-use mathlib.Core.Path.{_≡_, refl, sym, ap, _∙_}
-use native.Mathlib.Omega.{arith}
+-- `numbers::addresses::offset_of` meets its contract.
+use mathlib.Core.Path.{refl}
 use Rattle.numbers.specs.Addresses.{offset-of}
 use Rattle.numbers.specs.Sizes.{page-words}
-use borrow.Author.Needs.{needs}
 use Rattle.numbers.proofs.addresses.offset_of.Statement.{statement}
 use Rattle.numbers.proofs.addresses.offset_of.Tie as tie
-use Rattle.numbers.proofs.addresses.offset_of.Reads as reads
-use Rattle.numbers.proofs.addresses.offset_of.Lts as lts
 
 returns : tie.Need-returns
 unfolding offset-of page-words

@@ -1,16 +1,10 @@
-use Rattle.numbers.specs.Entries.{key-of, entry}
-use Rattle.numbers.specs.Sizes.{access-span, page-span, gpage-span, guest-span, unit-span}
-use mathlib.Core.Path.{_≡_, refl, sym, ap, _∙_}
+-- `numbers::entries::entry` meets its contract.
 use native.Mathlib.Omega.{arith}
 use borrow.Author.Needs.{needs}
+use Rattle.numbers.specs.Entries.{key-of, entry}
+use Rattle.numbers.specs.Sizes.{access-span, page-span, gpage-span, guest-span, unit-span}
 use Rattle.numbers.proofs.entries.entry.Statement.{statement}
 use Rattle.numbers.proofs.entries.entry.Tie as tie
-use Rattle.numbers.proofs.entries.entry.Reads as reads
-use Rattle.numbers.proofs.entries.entry.Lts as lts
-use Rattle.numbers.proofs.entries.key_of.Reads as key-of-reads
-
-key-of-requires : tie.Need-key-of-requires
-key-of-requires c κs = search needs
 
 mul-result : tie.Need-mul-result
 unfolding key-of gpage-span guest-span unit-span
@@ -34,4 +28,4 @@ returns c = rw (c .key-of .ensures)
 
 pub entry-spec : {M : Type 1} → statement M
 entry-spec =
-    tie.close (tie.spec key-of-requires mul-result add-result mul-result-2 add-result-2 returns)
+    tie.close (tie.spec (λ c κs. search needs) mul-result add-result mul-result-2 add-result-2 returns)

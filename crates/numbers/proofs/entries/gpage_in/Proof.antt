@@ -1,23 +1,13 @@
-use mathlib.Core.Path.{_≡_, refl, sym, ap, _∙_}
-use native.Mathlib.Omega.{arith}
+-- `numbers::entries::gpage_in` meets its contract.
+use borrow.Author.Needs.{needs}
 use Rattle.numbers.specs.Entries.{gpage-in}
 use Rattle.numbers.specs.Sizes.{gpage-span}
-use borrow.Author.Needs.{needs}
 use Rattle.numbers.proofs.entries.gpage_in.Statement.{statement}
 use Rattle.numbers.proofs.entries.gpage_in.Tie as tie
-use Rattle.numbers.proofs.entries.gpage_in.Reads as reads
-use Rattle.numbers.proofs.entries.gpage_in.Lts as lts
-use Rattle.numbers.proofs.entries.key_in.Reads as key-in-reads
-
-key-in-requires : tie.Need-key-in-requires
-key-in-requires c κs = search needs
-
-cast-result : tie.Need-cast-result
-cast-result c = search needs
 
 returns : tie.Need-returns
 unfolding gpage-in gpage-span
 returns c = rw (c .key-in .ensures)
 
 pub gpage-in-spec : {M : Type 1} → statement M
-gpage-in-spec = tie.close (tie.spec key-in-requires cast-result returns)
+gpage-in-spec = tie.close (tie.spec (λ c κs. search needs) (λ c. search needs) returns)

@@ -1,12 +1,9 @@
-use mathlib.Core.Path.{_≡_, refl, sym, ap, _∙_}
-use native.Mathlib.Omega.{arith}
+-- `numbers::entries::key_in` meets its contract.
+use mathlib.Core.Path.{refl}
 use Rattle.numbers.specs.Entries.{key-in}
 use Rattle.numbers.specs.Sizes.{access-span, page-span}
-use borrow.Author.Needs.{needs}
 use Rattle.numbers.proofs.entries.key_in.Statement.{statement}
 use Rattle.numbers.proofs.entries.key_in.Tie as tie
-use Rattle.numbers.proofs.entries.key_in.Reads as reads
-use Rattle.numbers.proofs.entries.key_in.Lts as lts
 
 returns : tie.Need-returns
 unfolding key-in access-span page-span

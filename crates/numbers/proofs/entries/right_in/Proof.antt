@@ -1,23 +1,13 @@
-use mathlib.Core.Path.{_≡_, refl, sym, ap, _∙_}
-use native.Mathlib.Omega.{arith}
+-- `numbers::entries::right_in` meets its contract.
+use borrow.Author.Needs.{needs}
 use Rattle.numbers.specs.Entries.{right-in}
 use Rattle.numbers.specs.Sizes.{guest-span}
-use borrow.Author.Needs.{needs}
 use Rattle.numbers.proofs.entries.right_in.Statement.{statement}
 use Rattle.numbers.proofs.entries.right_in.Tie as tie
-use Rattle.numbers.proofs.entries.right_in.Reads as reads
-use Rattle.numbers.proofs.entries.right_in.Lts as lts
-use Rattle.numbers.proofs.entries.key_in.Reads as key-in-reads
-
-key-in-requires : tie.Need-key-in-requires
-key-in-requires c κs = search needs
-
-cast-result : tie.Need-cast-result
-cast-result c = search needs
 
 returns : tie.Need-returns
 unfolding right-in guest-span
 returns c = rw (c .key-in .ensures)
 
 pub right-in-spec : {M : Type 1} → statement M
-right-in-spec = tie.close (tie.spec key-in-requires cast-result returns)
+right-in-spec = tie.close (tie.spec (λ c κs. search needs) (λ c. search needs) returns)

@@ -1,18 +1,13 @@
+-- `numbers::entries::tag_in` meets its contract.
+use borrow.Author.Needs.{needs}
 use Rattle.numbers.specs.Entries.{tag-in}
 use Rattle.numbers.specs.Sizes.{gpage-span, guest-span, unit-span}
-use borrow.Author.Needs.{needs}
 use Rattle.numbers.proofs.entries.tag_in.Statement.{statement}
 use Rattle.numbers.proofs.entries.tag_in.Tie as tie
-use Rattle.numbers.proofs.entries.tag_in.Reads as reads
-use Rattle.numbers.proofs.entries.tag_in.Lts as lts
-use Rattle.numbers.proofs.entries.key_in.Reads as key-in-reads
-
-key-in-requires : tie.Need-key-in-requires
-key-in-requires c κs = search needs
 
 returns : tie.Need-returns
 unfolding tag-in gpage-span guest-span unit-span
 returns c = rw (c .key-in .ensures)
 
 pub tag-in-spec : {M : Type 1} → statement M
-tag-in-spec = tie.close (tie.spec key-in-requires returns)
+tag-in-spec = tie.close (tie.spec (λ c κs. search needs) returns)

@@ -1,19 +1,12 @@
-use mathlib.Core.Path.{_≡_, refl, sym, ap, _∙_}
-use native.Mathlib.Omega.{arith}
-use Rattle.numbers.specs.Entries.{writable}
+-- `numbers::entries::writable` meets its contract.
 use borrow.Author.Needs.{needs}
+use Rattle.numbers.specs.Entries.{writable}
 use Rattle.numbers.proofs.entries.writable.Statement.{statement}
 use Rattle.numbers.proofs.entries.writable.Tie as tie
-use Rattle.numbers.proofs.entries.writable.Reads as reads
-use Rattle.numbers.proofs.entries.writable.Lts as lts
-use Rattle.numbers.proofs.entries.access_in.Reads as access-in-reads
-
-access-in-requires : tie.Need-access-in-requires
-access-in-requires c κs = search needs
 
 returns : tie.Need-returns
 unfolding writable
 returns c = rw (c .access-in .ensures)
 
 pub writable-spec : {M : Type 1} → statement M
-writable-spec = tie.close (tie.spec access-in-requires returns)
+writable-spec = tie.close (tie.spec (λ c κs. search needs) returns)

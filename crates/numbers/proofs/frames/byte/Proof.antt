@@ -1,20 +1,9 @@
-use mathlib.Core.Path.{_≡_, refl, sym, ap, _∙_}
-use native.Mathlib.Omega.{arith}
+-- `numbers::frames::byte` meets its contract.
+use mathlib.Core.Path.{sym}
 use lib.ListN.{List·getD-eq-default}
 use borrow.Author.Needs.{needs}
 use Rattle.numbers.proofs.frames.byte.Statement.{statement}
 use Rattle.numbers.proofs.frames.byte.Tie as tie
-use Rattle.numbers.proofs.frames.byte.Reads as reads
-use Rattle.numbers.proofs.frames.byte.Lts as lts
-
-shared-slice-read-result : tie.Need-shared-slice-read-result
-shared-slice-read-result c = search needs
-
-returns : tie.Need-returns
-returns c = search needs
-
-returns-2 : tie.Need-returns-2
-returns-2 c = sym (List·getD-eq-default (c .before .args .bytes .now) 0 (c .if1 .left))
 
 pub byte-spec : {M : Type 1} → statement M
-byte-spec = tie.close (tie.spec shared-slice-read-result returns returns-2)
+byte-spec = tie.close (tie.spec (λ c. search needs) (λ c. search needs) (λ c. sym (List·getD-eq-default (c .before .args .bytes .now) 0 (c .if1 .left))))

@@ -1,15 +1,13 @@
+-- `numbers::frames::row_of` meets its contract.
+use mathlib.Core.Path.{sym, ap}
 use Prim.Native.Nat.{ℕ, _≤_, _-_}
-use lib.ListN.{getD, length}
-use borrow.Author.Tests.{eq-eqb, ne-eqb}
-use Rattle.numbers.specs.Frames.{kinds, of-kind, row-of}
-use Rattle.numbers.proofs.SearchLaws.{Passed, passed-none, passed-more, passed-hit, passed-end}
-use mathlib.Core.Path.{_≡_, refl, sym, ap, _∙_}
-use native.Mathlib.Omega.{arith}
+use lib.ListN.{getD}
 use borrow.Author.Needs.{needs}
+use borrow.Author.Tests.{eq-eqb, ne-eqb}
+use Rattle.numbers.proofs.SearchLaws.{Passed, passed-none, passed-more, passed-hit, passed-end}
+use Rattle.numbers.specs.Frames.{kinds, of-kind, row-of}
 use Rattle.numbers.proofs.frames.row_of.Statement.{statement}
 use Rattle.numbers.proofs.frames.row_of.Tie as tie
-use Rattle.numbers.proofs.frames.row_of.Reads as reads
-use Rattle.numbers.proofs.frames.row_of.Lts as lts
 
 abbrev Inv-loop : tie.InvT-loop
 Inv-loop kind i₀ i = (i ≤ 23) × Passed (of-kind kind) kinds i
@@ -17,24 +15,9 @@ Inv-loop kind i₀ i = (i ≤ 23) × Passed (of-kind kind) kinds i
 abbrev μ-loop : tie.MeasureT-loop
 μ-loop kind i₀ i = 23 - i
 
-loop-holds : tie.Need-loop-holds Inv-loop μ-loop
-loop-holds c = (search needs, passed-none _ _)
-
-mul-row : tie.Need-mul-row Inv-loop μ-loop
-mul-row c = search needs
-
-array-read-row : tie.Need-array-read-row Inv-loop μ-loop
-array-read-row c = search needs
-
 returns : tie.Need-returns Inv-loop μ-loop
 unfolding row-of kinds
 returns c = ap (λ (n : ℕ). getD kinds n 0) (sym (passed-hit (of-kind _) kinds _ 0 (c .before .loop-test .taken) (c .before .before .loop .inv .1) (eq-eqb _ _ (c .if1 .taken))))
-
-add-i : tie.Need-add-i Inv-loop μ-loop
-add-i c = search needs
-
-loop-less : tie.Need-loop-less Inv-loop μ-loop
-loop-less c = search needs
 
 loop-again : tie.Need-loop-again Inv-loop μ-loop
 unfolding kinds
@@ -50,11 +33,11 @@ row-of-spec =
     (tie.spec
     Inv-loop
     μ-loop
-    loop-holds
-    mul-row
-    array-read-row
+    (λ c. (search needs, passed-none _ _))
+    (λ c. search needs)
+    (λ c. search needs)
     returns
-    add-i
-    loop-less
+    (λ c. search needs)
+    (λ c. search needs)
     loop-again
     returns-2)

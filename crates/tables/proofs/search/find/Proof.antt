@@ -1,22 +1,10 @@
-use lib.ListN.{getD, List·getD-eq-default}
-use Rattle.tables.specs.Table.{find}
-use mathlib.Core.Path.{_≡_, refl, sym, ap, _∙_}
-use native.Mathlib.Omega.{arith}
+-- `tables::search::find` meets its contract.
+use mathlib.Core.Path.{sym}
+use lib.ListN.{List·getD-eq-default}
 use borrow.Author.Needs.{needs}
+use Rattle.tables.specs.Table.{find}
 use Rattle.tables.proofs.search.find.Statement.{statement}
 use Rattle.tables.proofs.search.find.Tie as tie
-use Rattle.tables.proofs.search.find.Reads as reads
-use Rattle.tables.proofs.search.find.Lts as lts
-use Rattle.tables.proofs.search.first.Reads as first-reads
-
-first-requires : tie.Need-first-requires
-first-requires c κs = search needs
-
-mul-result : tie.Need-mul-result
-mul-result c = search needs
-
-shared-slice-read-result : tie.Need-shared-slice-read-result
-shared-slice-read-result c = search needs
 
 returns : tie.Need-returns
 unfolding find
@@ -28,4 +16,4 @@ returns-2 c = rw (← c .before .first .ensures) (sym (List·getD-eq-default (c 
 
 pub find-spec : {M : Type 1} → statement M
 find-spec =
-    tie.close (tie.spec first-requires mul-result shared-slice-read-result returns returns-2)
+    tie.close (tie.spec (λ c κs. search needs) (λ c. search needs) (λ c. search needs) returns returns-2)

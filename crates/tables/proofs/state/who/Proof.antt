@@ -1,20 +1,9 @@
+-- `tables::state::who` meets its contract.
+use mathlib.Core.Path.{sym}
 use lib.ListN.{List·getD-eq-default}
-use mathlib.Core.Path.{_≡_, refl, sym, ap, _∙_}
-use native.Mathlib.Omega.{arith}
 use borrow.Author.Needs.{needs}
 use Rattle.tables.proofs.state.who.Statement.{statement}
 use Rattle.tables.proofs.state.who.Tie as tie
-use Rattle.tables.proofs.state.who.Reads as reads
-use Rattle.tables.proofs.state.who.Lts as lts
-
-shared-slice-read-result : tie.Need-shared-slice-read-result
-shared-slice-read-result c = search needs
-
-returns : tie.Need-returns
-returns c = search needs
-
-returns-2 : tie.Need-returns-2
-returns-2 c = sym (List·getD-eq-default (c .before .args .list .now) 0 (c .if1 .left))
 
 pub who-spec : {M : Type 1} → statement M
-who-spec = tie.close (tie.spec shared-slice-read-result returns returns-2)
+who-spec = tie.close (tie.spec (λ c. search needs) (λ c. search needs) (λ c. sym (List·getD-eq-default (c .before .args .list .now) 0 (c .if1 .left))))

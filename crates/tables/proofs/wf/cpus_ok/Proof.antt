@@ -1,20 +1,17 @@
-use Rattle.tables.specs.Wf.{vm-ok, cpus-ok}
+-- `tables::wf::cpus_ok` meets its contract.
+use mathlib.Core.Bool.{true}
+use mathlib.Core.Path.{_≡_, sym}
+use Prim.Native.Nat.{_≤_, _-_}
+use native.Mathlib.Omega.{arith}
+use lib.ListN.{getD}
+use borrow.Author.Needs.{needs}
+use borrow.Author.Tests.{not-true, not-false}
 use Rattle.numbers.proofs.SearchLaws.{upto-none, upto-more, upto-no}
 use Rattle.numbers.specs.Search.{upto}
 use Rattle.numbers.specs.Sizes.{units}
-use borrow.Author.Tests.{not-true, not-false}
-use lib.ListN.{getD}
-use mathlib.Core.Bool.{true}
-use Prim.Native.Nat.{_≤_, _-_}
-use mathlib.Core.Path.{_≡_, refl, sym, ap, _∙_}
-use native.Mathlib.Omega.{arith}
-use borrow.Author.Needs.{needs}
+use Rattle.tables.specs.Wf.{vm-ok, cpus-ok}
 use Rattle.tables.proofs.wf.cpus_ok.Statement.{statement}
 use Rattle.tables.proofs.wf.cpus_ok.Tie as tie
-use Rattle.tables.proofs.wf.cpus_ok.Reads as reads
-use Rattle.tables.proofs.wf.cpus_ok.Lts as lts
-use Rattle.tables.proofs.state.who.Reads as who-reads
-use Rattle.tables.proofs.wf.vm_ok.Reads as vm-ok-reads
 
 abbrev Inv-loop : tie.InvT-loop
 Inv-loop present running u₀ u = (u ≤ units) × (upto u (λ v. vm-ok present (getD running v 0)) ≡ true)
@@ -25,15 +22,6 @@ abbrev μ-loop : tie.MeasureT-loop
 loop-holds : tie.Need-loop-holds Inv-loop μ-loop
 unfolding units
 loop-holds c = (search needs, upto-none _)
-
-who-requires : tie.Need-who-requires Inv-loop μ-loop
-who-requires c κs = search needs
-
-vm-ok-requires : tie.Need-vm-ok-requires Inv-loop μ-loop
-vm-ok-requires c κs = search needs
-
-add-u : tie.Need-add-u Inv-loop μ-loop
-add-u c = search needs
 
 loop-less : tie.Need-loop-less Inv-loop μ-loop
 unfolding units
@@ -58,9 +46,9 @@ cpus-ok-spec =
     Inv-loop
     μ-loop
     loop-holds
-    who-requires
-    vm-ok-requires
-    add-u
+    (λ c κs. search needs)
+    (λ c κs. search needs)
+    (λ c. search needs)
     loop-less
     loop-again
     returns

@@ -1,21 +1,17 @@
-use Rattle.tables.specs.Wf.{page-ok, pages-ok}
+-- `tables::wf::pages_ok` meets its contract.
+use mathlib.Core.Bool.{true, false}
+use mathlib.Core.Path.{_≡_, sym}
+use Prim.Native.Nat.{_≤_, _-_}
+use native.Mathlib.Omega.{arith}
+use lib.ListN.{getD}
+use borrow.Author.Needs.{needs}
+use borrow.Author.Tests.{not-true, not-false}
 use Rattle.numbers.proofs.SearchLaws.{upto-none, upto-more, upto-no}
 use Rattle.numbers.specs.Search.{upto}
 use Rattle.numbers.specs.Sizes.{pages}
-use borrow.Author.Tests.{not-true, not-false}
-use lib.ListN.{getD}
-use mathlib.Core.Bool.{true, false}
-use Prim.Native.Nat.{_≤_, _-_}
-use mathlib.Core.Path.{_≡_, refl, sym, ap, _∙_}
-use native.Mathlib.Omega.{arith}
-use borrow.Author.Needs.{needs}
+use Rattle.tables.specs.Wf.{page-ok, pages-ok}
 use Rattle.tables.proofs.wf.pages_ok.Statement.{statement}
 use Rattle.tables.proofs.wf.pages_ok.Tie as tie
-use Rattle.tables.proofs.wf.pages_ok.Reads as reads
-use Rattle.tables.proofs.wf.pages_ok.Lts as lts
-use Rattle.tables.proofs.state.flag.Reads as flag-reads
-use Rattle.tables.proofs.state.who.Reads as who-reads
-use Rattle.tables.proofs.wf.page_ok.Reads as page-ok-reads
 
 abbrev Inv-loop : tie.InvT-loop
 Inv-loop present holder dma region p₀ p = (p ≤ pages) × (upto p (λ q. page-ok present (getD holder q 0) (getD dma q 0) (getD region q false)) ≡ true)
@@ -26,21 +22,6 @@ abbrev μ-loop : tie.MeasureT-loop
 loop-holds : tie.Need-loop-holds Inv-loop μ-loop
 unfolding pages
 loop-holds c = (search needs, upto-none _)
-
-who-requires : tie.Need-who-requires Inv-loop μ-loop
-who-requires c κs = search needs
-
-who-requires-2 : tie.Need-who-requires-2 Inv-loop μ-loop
-who-requires-2 c κs = search needs
-
-flag-requires : tie.Need-flag-requires Inv-loop μ-loop
-flag-requires c κs = search needs
-
-page-ok-requires : tie.Need-page-ok-requires Inv-loop μ-loop
-page-ok-requires c κs = search needs
-
-add-p : tie.Need-add-p Inv-loop μ-loop
-add-p c = search needs
 
 loop-less : tie.Need-loop-less Inv-loop μ-loop
 unfolding pages
@@ -65,11 +46,11 @@ pages-ok-spec =
     Inv-loop
     μ-loop
     loop-holds
-    who-requires
-    who-requires-2
-    flag-requires
-    page-ok-requires
-    add-p
+    (λ c κs. search needs)
+    (λ c κs. search needs)
+    (λ c κs. search needs)
+    (λ c κs. search needs)
+    (λ c. search needs)
     loop-less
     loop-again
     returns

@@ -1,43 +1,22 @@
-use Rattle.tables.proofs.LoopLaws.{Left, left-none, left-more, left-no, left-end}
-use Rattle.tables.specs.Wf.{row-ok}
-use Rattle.tables.specs.Wants.{W}
-use Rattle.tables.specs.Table.{each, live}
-use Rattle.numbers.specs.Tests.{_or_, isnt}
-use borrow.Author.Tests.{not-true, not-false}
-use lib.ListN.{length}
+-- `tables::wf::rows_ok` meets its contract.
+use mathlib.Core.Path.{sym}
 use Prim.Native.Nat.{_≤_, _-_}
-use mathlib.Core.Path.{_≡_, refl, sym, ap, _∙_}
-use native.Mathlib.Omega.{arith}
+use lib.ListN.{length}
 use borrow.Author.Needs.{needs}
+use borrow.Author.Tests.{not-true, not-false}
+use Rattle.numbers.specs.Tests.{_or_, isnt}
+use Rattle.tables.specs.Table.{each, live}
+use Rattle.tables.specs.Wants.{W}
+use Rattle.tables.specs.Wf.{row-ok}
+use Rattle.tables.proofs.LoopLaws.{Left, left-none, left-more, left-no, left-end}
 use Rattle.tables.proofs.wf.rows_ok.Statement.{statement}
 use Rattle.tables.proofs.wf.rows_ok.Tie as tie
-use Rattle.tables.proofs.wf.rows_ok.Reads as reads
-use Rattle.tables.proofs.wf.rows_ok.Lts as lts
-use Rattle.tables.proofs.wf.row_ok.Reads as row-ok-reads
 
 abbrev Inv-loop : tie.InvT-loop
 Inv-loop rows table present held pairs region i₀ i = (i ≤ length table) × Left (λ x later. isnt (live W x) or row-ok rows present held pairs region x) table i
 
 abbrev μ-loop : tie.MeasureT-loop
 μ-loop rows table present held pairs region i₀ i = length table - i
-
-loop-holds : tie.Need-loop-holds Inv-loop μ-loop
-loop-holds c = (search needs, left-none _ _)
-
-mul-word : tie.Need-mul-word Inv-loop μ-loop
-mul-word c = search needs
-
-shared-slice-read-word : tie.Need-shared-slice-read-word Inv-loop μ-loop
-shared-slice-read-word c = search needs
-
-row-ok-requires : tie.Need-row-ok-requires Inv-loop μ-loop
-row-ok-requires c κs = search needs
-
-add-i : tie.Need-add-i Inv-loop μ-loop
-add-i c = search needs
-
-loop-less : tie.Need-loop-less Inv-loop μ-loop
-loop-less c = search needs
 
 loop-again : tie.Need-loop-again Inv-loop μ-loop
 unfolding isnt _or_
@@ -57,12 +36,12 @@ rows-ok-spec =
     (tie.spec
     Inv-loop
     μ-loop
-    loop-holds
-    mul-word
-    shared-slice-read-word
-    row-ok-requires
-    add-i
-    loop-less
+    (λ c. (search needs, left-none _ _))
+    (λ c. search needs)
+    (λ c. search needs)
+    (λ c κs. search needs)
+    (λ c. search needs)
+    (λ c. search needs)
     loop-again
     returns
     returns-2)

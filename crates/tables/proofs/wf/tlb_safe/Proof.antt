@@ -1,25 +1,21 @@
-use Rattle.tables.proofs.WfLaws.{cached-at, cached-past}
-use Rattle.tables.proofs.LoopLaws.{Left, left-none, left-more, left-no, left-end}
-use Rattle.tables.specs.Wf.{cached}
-use Rattle.tables.specs.Wants.{W, meets}
-use Rattle.tables.specs.Table.{hit, each, live}
-use Rattle.numbers.proofs.SearchLaws.{Passed, passed-none, passed-more, passed-hit, passed-end}
-use Rattle.numbers.proofs.Bools.{or-il, or-ir, or-no, isnt-i, isnt-no}
-use Rattle.numbers.specs.Tests.{_or_, isnt}
+-- `tables::wf::tlb_safe` meets its contract.
 use mathlib.Core.Logic.{⊎-elim}
-use borrow.Author.Tests.{eq-eqb, ne-eqb}
-use lib.ListN.{length, getD}
-use Prim.Native.Nat.{_≤_, _-_, _+_}
-use mathlib.Core.Path.{_≡_, refl, sym, ap, _∙_}
+use mathlib.Core.Path.{sym, _∙_}
+use Prim.Native.Nat.{_≤_, _-_}
 use native.Mathlib.Omega.{arith}
+use lib.ListN.{length}
 use borrow.Author.Needs.{needs}
+use borrow.Author.Tests.{eq-eqb, ne-eqb}
+use Rattle.numbers.proofs.Bools.{or-il, or-ir, or-no, isnt-i, isnt-no}
+use Rattle.numbers.proofs.SearchLaws.{Passed, passed-none, passed-more, passed-hit, passed-end}
+use Rattle.numbers.specs.Tests.{_or_, isnt}
+use Rattle.tables.specs.Table.{hit, each, live}
+use Rattle.tables.specs.Wants.{W, meets}
+use Rattle.tables.specs.Wf.{cached}
+use Rattle.tables.proofs.LoopLaws.{Left, left-none, left-more, left-no, left-end}
+use Rattle.tables.proofs.WfLaws.{cached-at, cached-past}
 use Rattle.tables.proofs.wf.tlb_safe.Statement.{statement}
 use Rattle.tables.proofs.wf.tlb_safe.Tie as tie
-use Rattle.tables.proofs.wf.tlb_safe.Reads as reads
-use Rattle.tables.proofs.wf.tlb_safe.Lts as lts
-use Rattle.numbers.proofs.entries.at_unit.Reads as at-unit-reads
-use Rattle.numbers.proofs.entries.key_in.Reads as key-in-reads
-use Rattle.tables.proofs.search.hits.Reads as hits-reads
 
 abbrev Inv-loop : tie.InvT-loop
 Inv-loop map tlb i word home key j₀ j = (j ≤ length map) × Passed (hit W (meets key)) map j
@@ -82,11 +78,14 @@ rows-less : tie.Need-rows-less Inv-loop μ-loop Inv-rows μ-rows
 rows-less c = search needs
 
 rows-again : tie.Need-rows-again Inv-loop μ-loop Inv-rows μ-rows
-rows-again c = (search needs, left-more _ _ _ 0 (c .before .before .if1 .left) (c .before .before .before .rows .inv .1)
-    (⊎-elim
-    (λ w. or-ir _ (cached-at _ _ _ _ _ (w .1 .ensures) (w .2 .ensures) (passed-hit _ _ _ 0 (w .4 .left) (w .3 .inv .1) (sym (w .6 .ensures) ∙ w .7 .taken)) ∙ eq-eqb _ _ (w .9 .left)))
-    (λ w. or-il _ (isnt-i (isnt-no (eq-eqb _ _ (w .left)))))
-    (c .if2 .came)))
+rows-again c = (
+  search needs,
+  left-more _ _ _ 0 (c .before .before .if1 .left) (c .before .before .before .rows .inv .1)
+      (⊎-elim
+      (λ w. or-ir _ (cached-at _ _ _ _ _ (w .1 .ensures) (w .2 .ensures) (passed-hit _ _ _ 0 (w .4 .left) (w .3 .inv .1) (sym (w .6 .ensures) ∙ w .7 .taken)) ∙ eq-eqb _ _ (w .9 .left)))
+      (λ w. or-il _ (isnt-i (isnt-no (eq-eqb _ _ (w .left)))))
+      (c .if2 .came)),
+)
 
 returns : tie.Need-returns Inv-loop μ-loop Inv-rows μ-rows
 unfolding each

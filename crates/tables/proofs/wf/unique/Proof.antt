@@ -1,22 +1,18 @@
-use Rattle.tables.proofs.LoopLaws.{Left, left-none, left-more, left-no, left-end, Beyond, beyond-none, beyond-more, beyond-hit, beyond-end}
-use Rattle.tables.specs.Wf.{same-as}
-use Rattle.tables.specs.Wants.{W, meets}
-use Rattle.tables.specs.Table.{has, uniq, live}
+-- `tables::wf::unique` meets its contract.
+use mathlib.Core.Logic.{⊎-elim}
+use mathlib.Core.Path.{sym, _∙_}
+use Prim.Native.Nat.{_≤_, _-_, _+_}
+use lib.ListN.{length}
+use borrow.Author.Needs.{needs}
+use borrow.Author.Tests.{eq-eqb, ne-eqb}
 use Rattle.numbers.proofs.Bools.{or-il, or-ir, or-no, isnt-i, isnt-no}
 use Rattle.numbers.specs.Tests.{_or_, isnt}
-use mathlib.Core.Logic.{⊎-elim}
-use borrow.Author.Tests.{eq-eqb, ne-eqb}
-use lib.ListN.{length, drop}
-use Prim.Native.Nat.{_≤_, _-_, _+_}
-use mathlib.Core.Path.{_≡_, refl, sym, ap, _∙_}
-use native.Mathlib.Omega.{arith}
-use borrow.Author.Needs.{needs}
+use Rattle.tables.specs.Table.{has, uniq, live}
+use Rattle.tables.specs.Wants.{W, meets}
+use Rattle.tables.specs.Wf.{same-as}
+use Rattle.tables.proofs.LoopLaws.{Left, left-none, left-more, left-no, left-end, Beyond, beyond-none, beyond-more, beyond-hit, beyond-end}
 use Rattle.tables.proofs.wf.unique.Statement.{statement}
 use Rattle.tables.proofs.wf.unique.Tie as tie
-use Rattle.tables.proofs.wf.unique.Reads as reads
-use Rattle.tables.proofs.wf.unique.Lts as lts
-use Rattle.tables.proofs.search.hits.Reads as hits-reads
-use Rattle.tables.proofs.wf.same_as.Reads as same-as-reads
 
 abbrev Inv-loop : tie.InvT-loop
 Inv-loop rows table i word like j₀ j = (j ≤ length table) × Beyond W (meets like) table (i + 1) j
@@ -73,11 +69,14 @@ rows-less : tie.Need-rows-less Inv-loop μ-loop Inv-rows μ-rows
 rows-less c = search needs
 
 rows-again : tie.Need-rows-again Inv-loop μ-loop Inv-rows μ-rows
-rows-again c = (search needs, left-more _ _ _ 0 (c .before .before .if1 .left) (c .before .before .before .rows .inv .1)
-    (⊎-elim
-    (λ w. or-ir _ (isnt-i (rw (← w .1 .ensures) (beyond-end W _ _ _ _ (w .3 .taken) (w .2 .inv .1)))))
-    (λ w. or-il _ (isnt-i (isnt-no (eq-eqb _ _ (w .left)))))
-    (c .if2 .came)))
+rows-again c = (
+  search needs,
+  left-more _ _ _ 0 (c .before .before .if1 .left) (c .before .before .before .rows .inv .1)
+      (⊎-elim
+      (λ w. or-ir _ (isnt-i (rw (← w .1 .ensures) (beyond-end W _ _ _ _ (w .3 .taken) (w .2 .inv .1)))))
+      (λ w. or-il _ (isnt-i (isnt-no (eq-eqb _ _ (w .left)))))
+      (c .if2 .came)),
+)
 
 returns : tie.Need-returns Inv-loop μ-loop Inv-rows μ-rows
 unfolding uniq

@@ -1,32 +1,9 @@
-use Rattle.numbers.specs.Rules.{least}
-use Rattle.numbers.specs.Frames.{frame-number}
+-- `numbers::frames::Action::number` meets its contract.
 use borrow.Author.Needs.{needs}
+use Rattle.numbers.specs.Frames.{frame-number}
+use Rattle.numbers.specs.Rules.{least}
 use Rattle.numbers.proofs.frames.Action.number.Statement.{statement}
 use Rattle.numbers.proofs.frames.Action.number.Tie as tie
-use Rattle.numbers.proofs.frames.Action.number.Reads as reads
-use Rattle.numbers.proofs.frames.Action.number.Lts as lts
-use Rattle.numbers.proofs.frames.Action.beyond.Reads as beyond-reads
-use Rattle.numbers.proofs.frames.Action.stray.Reads as stray-reads
-use Rattle.numbers.proofs.frames.row_of.Reads as row-of-reads
-use Rattle.numbers.proofs.frames.rule.Reads as rule-reads
-
-row-of-requires : tie.Need-row-of-requires
-row-of-requires c κs = search needs
-
-stray-requires : tie.Need-stray-requires
-stray-requires c κs = search needs
-
-beyond-requires : tie.Need-beyond-requires
-beyond-requires c κs = search needs
-
-rule-requires : tie.Need-rule-requires
-rule-requires c κs = search needs
-
-rule-requires-2 : tie.Need-rule-requires-2
-rule-requires-2 c κs = search needs
-
-rule-requires-3 : tie.Need-rule-requires-3
-rule-requires-3 c κs = search needs
 
 returns : tie.Need-returns
 unfolding frame-number least
@@ -36,10 +13,10 @@ pub number-spec : {M : Type 1} → statement M
 number-spec =
     tie.close
     (tie.spec
-    row-of-requires
-    stray-requires
-    beyond-requires
-    rule-requires
-    rule-requires-2
-    rule-requires-3
+    (λ c κs. search needs)
+    (λ c κs. search needs)
+    (λ c κs. search needs)
+    (λ c κs. search needs)
+    (λ c κs. search needs)
+    (λ c κs. search needs)
     returns)

@@ -1,13 +1,9 @@
-use Rattle.tables.specs.State.{empty, bare}
+-- `tables::state::Tables::empty` meets its contract.
+use mathlib.Core.Path.{refl}
 use Rattle.numbers.specs.Sizes.{map-room, tlb-room, pair-room, pages, guests, units}
-use Rattle.tables.specs.State.{empty}
-use mathlib.Core.Path.{_≡_, refl, sym, ap, _∙_}
-use native.Mathlib.Omega.{arith}
-use borrow.Author.Needs.{needs}
+use Rattle.tables.specs.State.{empty, bare}
 use Rattle.tables.proofs.state.Tables.empty.Statement.{statement}
 use Rattle.tables.proofs.state.Tables.empty.Tie as tie
-use Rattle.tables.proofs.state.Tables.empty.Reads as reads
-use Rattle.tables.proofs.state.Tables.empty.Lts as lts
 
 returns : tie.Need-returns
 unfolding empty bare map-room tlb-room pair-room pages guests units
