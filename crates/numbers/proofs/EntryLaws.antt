@@ -13,26 +13,30 @@ low {n} x y h = add-mul-mod-self-left x n y ∙ mod-eq-of-lt h
 high : {n : ℕ} (x y : ℕ) → x < n → (x + n * y) / n ≡ y
 high {n} x y h = add-mul-div-left x y (omega arith) ∙ ap (λ (k : ℕ). k + y) (div-eq-of-lt h) ∙ zero-add y
 
--- ── fields are below their spans ──
-pub access-below : (w : ℕ) → access-in w < access-span
-unfolding access-in access-span
-access-below w = omega arith
+-- ── fields are below their spans, and so are numbers in range ──
+pub record InSpan (w : ℕ) : Type 0 where
+  pub access : access-in w < access-span
+  pub page : page-in w < page-span
+  pub gpage : gpage-in w < gpage-span
+  pub guest : guest-in w < guest-span
+  pub unit : unit-in w < unit-span
+  pub left : left-in w < guest-span
+  pub right : right-in w < guest-span
 
-pub page-below : (w : ℕ) → page-in w < page-span
-unfolding page-in page-span
-page-below w = omega arith
+pub in-span : (w : ℕ) → InSpan w
+unfolding access-in page-in gpage-in guest-in unit-in left-in right-in access-span page-span gpage-span guest-span unit-span
+in-span w = omega arith
 
-pub gpage-below : (w : ℕ) → gpage-in w < gpage-span
-unfolding gpage-in gpage-span
-gpage-below w = omega arith
+pub record CountsFit : Type 0 where
+  pub access : (x : ℕ) → x < accesses → x < access-span
+  pub page : (p : ℕ) → p < pages → p < page-span
+  pub gpage : (v : ℕ) → v < gpages → v < gpage-span
+  pub guest : (g : ℕ) → g < guests → g < guest-span
+  pub unit : (u : ℕ) → u < units → u < unit-span
 
-pub guest-below : (w : ℕ) → guest-in w < guest-span
-unfolding guest-in guest-span
-guest-below w = omega arith
-
-pub unit-below : (w : ℕ) → unit-in w < unit-span
-unfolding unit-in unit-span
-unit-below w = omega arith
+pub counts-fit : CountsFit
+unfolding accesses pages gpages guests units access-span page-span gpage-span guest-span unit-span
+counts-fit = omega arith
 
 -- ── a key, of a guest and a guest page that fit ──
 module _ (u g v : ℕ) (hg : g < guest-span) (hv : v < gpage-span) where
@@ -93,27 +97,27 @@ entry-own w t = let k : key-in w ≡ key-of (unit-in w) (guest-in w) (gpage-in w
 module _ (u w : ℕ) where
   pub access-at-unit : access-in (at-unit u w) ≡ access-in w
   unfolding at-unit
-  access-at-unit = access-entry u _ _ _ _ (page-below w) (access-below w)
+  access-at-unit = access-entry u _ _ _ _ (in-span w .page) (in-span w .access)
 
   pub page-at-unit : page-in (at-unit u w) ≡ page-in w
   unfolding at-unit
-  page-at-unit = page-entry u _ _ _ _ (page-below w) (access-below w)
+  page-at-unit = page-entry u _ _ _ _ (in-span w .page) (in-span w .access)
 
   pub key-at-unit : key-in (at-unit u w) ≡ key-of u (guest-in w) (gpage-in w)
   unfolding at-unit
-  key-at-unit = key-entry u _ _ _ _ (page-below w) (access-below w)
+  key-at-unit = key-entry u _ _ _ _ (in-span w .page) (in-span w .access)
 
   pub gpage-at-unit : gpage-in (at-unit u w) ≡ gpage-in w
-  gpage-at-unit = gpage-under u _ _ (at-unit u w) (guest-below w) (gpage-below w) key-at-unit
+  gpage-at-unit = gpage-under u _ _ (at-unit u w) (in-span w .guest) (in-span w .gpage) key-at-unit
 
   pub guest-at-unit : guest-in (at-unit u w) ≡ guest-in w
-  guest-at-unit = guest-under u _ _ (at-unit u w) (guest-below w) (gpage-below w) key-at-unit
+  guest-at-unit = guest-under u _ _ (at-unit u w) (in-span w .guest) (in-span w .gpage) key-at-unit
 
   pub tag-at-unit : u < unit-span → tag-in (at-unit u w) ≡ 1
-  tag-at-unit = tag-under u _ _ (at-unit u w) (guest-below w) (gpage-below w) key-at-unit
+  tag-at-unit = tag-under u _ _ (at-unit u w) (in-span w .guest) (in-span w .gpage) key-at-unit
 
   pub unit-at-unit : u < unit-span → unit-in (at-unit u w) ≡ u
-  unit-at-unit = unit-under u _ _ (at-unit u w) (guest-below w) (gpage-below w) key-at-unit
+  unit-at-unit = unit-under u _ _ (at-unit u w) (in-span w .guest) (in-span w .gpage) key-at-unit
 
 pub at-unit-again : (t u w : ℕ) → at-unit t (at-unit u w) ≡ at-unit t w
 unfolding at-unit
@@ -137,14 +141,6 @@ unfolding pair access-span page-span guest-span
 pair-live l r p x = omega arith
 
 -- ── pairs ──
-pub left-below : (q : ℕ) → left-in q < guest-span
-unfolding left-in guest-span
-left-below q = omega arith
-
-pub right-below : (q : ℕ) → right-in q < guest-span
-unfolding right-in guest-span
-right-below q = omega arith
-
 module _ (l r p x : ℕ) (hp : p < page-span) (hx : x < access-span) where
   ends : ℕ
   ends = r + guest-span * (l + guest-span)
@@ -181,24 +177,3 @@ module _ (l r p x : ℕ) (hp : p < page-span) (hx : x < access-span) where
 pub pair-own : (q : ℕ) → pair-tag-in q ≡ 1 → pair (left-in q) (right-in q) (page-in q) (access-in q) ≡ q
 unfolding pair left-in right-in page-in access-in pair-tag-in key-in access-span page-span guest-span
 pair-own q t = omega arith
-
--- ── numbers in range fit ──
-pub units-fit : {u : ℕ} → u < units → u < unit-span
-unfolding units unit-span
-units-fit h = omega arith
-
-pub guests-fit : {g : ℕ} → g < guests → g < guest-span
-unfolding guests guest-span
-guests-fit h = omega arith
-
-pub gpages-fit : {v : ℕ} → v < gpages → v < gpage-span
-unfolding gpages gpage-span
-gpages-fit h = omega arith
-
-pub pages-fit : {p : ℕ} → p < pages → p < page-span
-unfolding pages page-span
-pages-fit h = omega arith
-
-pub accesses-fit : {x : ℕ} → x < accesses → x < access-span
-unfolding accesses access-span
-accesses-fit h = omega arith

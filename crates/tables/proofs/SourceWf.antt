@@ -7,7 +7,7 @@ use native.Mathlib.Omega.{arith}
 use Rattle.numbers.specs.Sizes.{guests, gpages}
 use Rattle.numbers.specs.Entries.{key-of, key-in, guest-in, gpage-in, page-in, at-unit}
 use Rattle.numbers.proofs.Bools.{and-l, and-r, and-i, bool-ext}
-use Rattle.numbers.proofs.EntryLaws.{guests-fit, gpages-fit, guest-under, gpage-under, key-at-unit, at-unit-live}
+use Rattle.numbers.proofs.EntryLaws.{counts-fit, guest-under, gpage-under, key-at-unit, at-unit-live}
 use Rattle.tables.specs.Table.{live, find, has}
 use Rattle.tables.specs.Wants.{W, has-key, joins, shared-by}
 use Rattle.tables.specs.State.{is-present, map-of, tlb-of, may-reach}
@@ -24,10 +24,10 @@ module _ (u g v : ℕ) (hg : g < guests) (hv : v < gpages) (t : _) (h : has W (h
   found-key = sym (has-key-agrees _ _ .0 (and-r _ _ (find-passes W (has-key (key-of u g v)) t h)))
 
   pub found-guest : guest-in (find W (has-key (key-of u g v)) t) ≡ g
-  found-guest = guest-under u g v _ (guests-fit hg) (gpages-fit hv) found-key
+  found-guest = guest-under u g v _ (counts-fit .guest g hg) (counts-fit .gpage v hv) found-key
 
   pub found-gpage : gpage-in (find W (has-key (key-of u g v)) t) ≡ v
-  found-gpage = gpage-under u g v _ (guests-fit hg) (gpages-fit hv) found-key
+  found-gpage = gpage-under u g v _ (counts-fit .guest g hg) (counts-fit .gpage v hv) found-key
 
 module _ (m : Tables) (w : Wf m) where
   -- ── pairs ──

@@ -29,54 +29,6 @@ Inv-rows map tlb i₀ i = (i ≤ length tlb) × Left (λ y later. isnt (live W y
 abbrev μ-rows : tie.MeasureT-rows
 μ-rows map tlb i₀ i = length tlb - i
 
-rows-holds : tie.Need-rows-holds Inv-loop μ-loop Inv-rows μ-rows
-rows-holds c = (search needs, left-none _ _)
-
-mul-word : tie.Need-mul-word Inv-loop μ-loop Inv-rows μ-rows
-mul-word c = search needs
-
-shared-slice-read-word : tie.Need-shared-slice-read-word Inv-loop μ-loop Inv-rows μ-rows
-shared-slice-read-word c = search needs
-
-at-unit-requires : tie.Need-at-unit-requires Inv-loop μ-loop Inv-rows μ-rows
-at-unit-requires c κs = search needs
-
-key-in-requires : tie.Need-key-in-requires Inv-loop μ-loop Inv-rows μ-rows
-key-in-requires c κs = search needs
-
-loop-holds : tie.Need-loop-holds Inv-loop μ-loop Inv-rows μ-rows
-loop-holds c = (search needs, passed-none _ _)
-
-mul-hits : tie.Need-mul-hits Inv-loop μ-loop Inv-rows μ-rows
-mul-hits c = search needs
-
-shared-slice-read-hits : tie.Need-shared-slice-read-hits Inv-loop μ-loop Inv-rows μ-rows
-shared-slice-read-hits c = search needs
-
-hits-requires : tie.Need-hits-requires Inv-loop μ-loop Inv-rows μ-rows
-hits-requires c κs = search needs
-
-add-j : tie.Need-add-j Inv-loop μ-loop Inv-rows μ-rows
-add-j c = search needs
-
-loop-less : tie.Need-loop-less Inv-loop μ-loop Inv-rows μ-rows
-loop-less c = search needs
-
-loop-again : tie.Need-loop-again Inv-loop μ-loop Inv-rows μ-rows
-loop-again c = (search needs, passed-more _ _ _ 0 (c .before .before .before .if3 .left) (c .before .before .before .before .loop .inv .1) (sym (c .before .hits .ensures) ∙ c .if4 .left))
-
-mul-if5 : tie.Need-mul-if5 Inv-loop μ-loop Inv-rows μ-rows
-mul-if5 c = search needs
-
-shared-slice-read-if5 : tie.Need-shared-slice-read-if5 Inv-loop μ-loop Inv-rows μ-rows
-shared-slice-read-if5 c = search needs
-
-add-i : tie.Need-add-i Inv-loop μ-loop Inv-rows μ-rows
-add-i c = search needs
-
-rows-less : tie.Need-rows-less Inv-loop μ-loop Inv-rows μ-rows
-rows-less c = search needs
-
 rows-again : tie.Need-rows-again Inv-loop μ-loop Inv-rows μ-rows
 rows-again c = (
   search needs,
@@ -111,22 +63,22 @@ tlb-safe-spec =
     μ-loop
     Inv-rows
     μ-rows
-    rows-holds
-    mul-word
-    shared-slice-read-word
-    at-unit-requires
-    key-in-requires
-    loop-holds
-    mul-hits
-    shared-slice-read-hits
-    hits-requires
-    add-j
-    loop-less
-    loop-again
-    mul-if5
-    shared-slice-read-if5
-    add-i
-    rows-less
+    (λ c. (search needs, left-none _ _))
+    (λ c. search needs)
+    (λ c. search needs)
+    (λ c κs. search needs)
+    (λ c κs. search needs)
+    (λ c. (search needs, passed-none _ _))
+    (λ c. search needs)
+    (λ c. search needs)
+    (λ c κs. search needs)
+    (λ c. search needs)
+    (λ c. search needs)
+    (λ c. (search needs, passed-more _ _ _ 0 (c .before .before .before .if3 .left) (c .before .before .before .before .loop .inv .1) (sym (c .before .hits .ensures) ∙ c .if4 .left)))
+    (λ c. search needs)
+    (λ c. search needs)
+    (λ c. search needs)
+    (λ c. search needs)
     rows-again
     returns
     returns-2

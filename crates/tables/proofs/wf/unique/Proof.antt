@@ -26,48 +26,6 @@ Inv-rows rows table i₀ i = (i ≤ length table) × Left (λ x later. isnt (liv
 abbrev μ-rows : tie.MeasureT-rows
 μ-rows rows table i₀ i = length table - i
 
-rows-holds : tie.Need-rows-holds Inv-loop μ-loop Inv-rows μ-rows
-rows-holds c = (search needs, left-none _ _)
-
-mul-word : tie.Need-mul-word Inv-loop μ-loop Inv-rows μ-rows
-mul-word c = search needs
-
-shared-slice-read-word : tie.Need-shared-slice-read-word Inv-loop μ-loop Inv-rows μ-rows
-shared-slice-read-word c = search needs
-
-same-as-requires : tie.Need-same-as-requires Inv-loop μ-loop Inv-rows μ-rows
-same-as-requires c κs = search needs
-
-add-j : tie.Need-add-j Inv-loop μ-loop Inv-rows μ-rows
-add-j c = search needs
-
-loop-holds : tie.Need-loop-holds Inv-loop μ-loop Inv-rows μ-rows
-loop-holds c = (search needs, beyond-none _ _ _ _)
-
-mul-hits : tie.Need-mul-hits Inv-loop μ-loop Inv-rows μ-rows
-mul-hits c = search needs
-
-shared-slice-read-hits : tie.Need-shared-slice-read-hits Inv-loop μ-loop Inv-rows μ-rows
-shared-slice-read-hits c = search needs
-
-hits-requires : tie.Need-hits-requires Inv-loop μ-loop Inv-rows μ-rows
-hits-requires c κs = search needs
-
-add-j-2 : tie.Need-add-j-2 Inv-loop μ-loop Inv-rows μ-rows
-add-j-2 c = search needs
-
-loop-less : tie.Need-loop-less Inv-loop μ-loop Inv-rows μ-rows
-loop-less c = search needs
-
-loop-again : tie.Need-loop-again Inv-loop μ-loop Inv-rows μ-rows
-loop-again c = (search needs, beyond-more _ _ _ _ _ 0 (c .before .before .before .loop-test .left) (c .before .before .before .before .loop .inv .1) (sym (c .before .hits .ensures) ∙ c .if3 .left))
-
-add-i : tie.Need-add-i Inv-loop μ-loop Inv-rows μ-rows
-add-i c = search needs
-
-rows-less : tie.Need-rows-less Inv-loop μ-loop Inv-rows μ-rows
-rows-less c = search needs
-
 rows-again : tie.Need-rows-again Inv-loop μ-loop Inv-rows μ-rows
 rows-again c = (
   search needs,
@@ -95,20 +53,20 @@ unique-spec =
     μ-loop
     Inv-rows
     μ-rows
-    rows-holds
-    mul-word
-    shared-slice-read-word
-    same-as-requires
-    add-j
-    loop-holds
-    mul-hits
-    shared-slice-read-hits
-    hits-requires
-    add-j-2
-    loop-less
-    loop-again
-    add-i
-    rows-less
+    (λ c. (search needs, left-none _ _))
+    (λ c. search needs)
+    (λ c. search needs)
+    (λ c κs. search needs)
+    (λ c. search needs)
+    (λ c. (search needs, beyond-none _ _ _ _))
+    (λ c. search needs)
+    (λ c. search needs)
+    (λ c κs. search needs)
+    (λ c. search needs)
+    (λ c. search needs)
+    (λ c. (search needs, beyond-more _ _ _ _ _ 0 (c .before .before .before .loop-test .left) (c .before .before .before .before .loop .inv .1) (sym (c .before .hits .ensures) ∙ c .if3 .left)))
+    (λ c. search needs)
+    (λ c. search needs)
     rows-again
     returns
     returns-2)
