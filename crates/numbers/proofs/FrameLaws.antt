@@ -2,14 +2,15 @@
 -- action that passes the check is known to be.
 use mathlib.Core.Path.{_≡_, refl, sym}
 use mathlib.Core.Bool.{Bool, true, false, Bool·beq}
-use Prim.Native.Nat.{ℕ, _<_}
+use Prim.Native.Nat.{ℕ, _≤_, _<_}
 use lib.Dec.{eqb, leb}
 use Rattle.numbers.specs.Tests.{_and_, _or_, isnt}
 use Rattle.numbers.specs.Rules.{least}
 use Rattle.numbers.specs.Search.{first, upto}
-use Rattle.numbers.specs.Frames.{kinds, row-of, stray, beyond, frame-number}
+use Rattle.numbers.specs.Frames.{kinds, row-of, stray, beyond, frame-rules, frame-number}
 use Rattle.numbers.specs.declared.frames.Action.{Action}
 use Rattle.numbers.proofs.Bools.{split}
+use Rattle.numbers.proofs.RulesLaws.{Applies, rising, least-lowest}
 use Rattle.numbers.proofs.SearchLaws.{upto-at}
 
 -- ── 0, 3 or 4 ──
@@ -29,6 +30,11 @@ checked a = split (eqb (row-of (a .kind)) 0)
     (λ e. split (stray (row-of (a .kind)) a)
     (λ s. rw (e, s) (unused e s))
     (λ s. split (beyond (row-of (a .kind)) a) (λ b. rw (e, s, b) (out-of-range e s b)) (λ b. rw (e, s, b) (fine e s b))))
+
+-- the number given is the lowest that applies
+pub frame-lowest : (a : Action) (n : ℕ) → Applies n (frame-rules a) → (0 < frame-number a) × (frame-number a ≤ n)
+unfolding frame-number rising _and_
+frame-lowest a n h = least-lowest 3 (frame-rules a) refl h
 
 -- ── the table's rule: a kind has a row exactly when it is one of 01..05, 10..1b, 20..25 ──
 pub within : ℕ → ℕ → ℕ → Bool

@@ -34,7 +34,9 @@ module _ {A : Type 0} where
   pub first-passes : (p : A → Bool) (t : List A) (d : A) → first p t < length t → p (getD t (first p t) d) ≡ true
   unfolding first
   first-passes p [] d h = absurd (omega arith)
-  first-passes p (x ∷ t) d h = split (p x) (λ e. rw e e) (λ e. rw e (first-passes p t d (let l : first p (x ∷ t) ≡ suc (first p t) = first-skip p x t e in omega arith)))
+  first-passes p (x ∷ t) d h = split (p x)
+      (λ e. rw e e)
+      (λ e. let l : first p (x ∷ t) ≡ suc (first p t) = first-skip p x t e in rw e (first-passes p t d (omega arith)))
 
   -- no place that passes is lower
   pub first-lowest : (p : A → Bool) (t : List A) (d : A) (i : ℕ) → i < length t → p (getD t i d) ≡ true → first p t ≤ i

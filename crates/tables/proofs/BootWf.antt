@@ -2,10 +2,10 @@
 use mathlib.Core.Path.{_≡_, sym, _∙_}
 use mathlib.Core.Bool.{Bool, true, false}
 use mathlib.Core.List.{List}
-use Prim.Native.Nat.{ℕ, zero, suc, _<_, _≤_}
+use Prim.Native.Nat.{ℕ, zero, suc, _<_}
 use native.Mathlib.Omega.{arith}
 use lib.Dec.{ltb}
-use lib.ListN.{getD, length, replicate, length-replicate, getD-replicate, List·getD-eq-default}
+use lib.ListN.{getD, length, replicate, length-replicate, getD-replicate}
 use borrow.Author.Tests.{ltb-true, ltb-false}
 use Rattle.numbers.specs.Sizes.{pages, units, map-room, tlb-room, pair-room}
 use Rattle.numbers.proofs.Bools.{split, clash, isnt-no}
@@ -16,7 +16,7 @@ use Rattle.tables.specs.Wf.{Wf, Sized, wf}
 use Rattle.tables.specs.declared.state.Tables.{Tables}
 use Rattle.tables.specs.declared.state.Side.the-variants.{Cpu, Iommu}
 use Rattle.tables.proofs.WantLaws.{zero-free}
-use Rattle.tables.proofs.LoopLaws.{Filled, length-tabulate, tabulate-at}
+use Rattle.tables.proofs.LoopLaws.{getD-past, Filled, length-tabulate, tabulate-at}
 use Rattle.tables.proofs.WfLaws.{PageWf, no-guest-page}
 use Rattle.tables.proofs.WfAgrees.{wf-complete}
 
@@ -34,56 +34,60 @@ module _ {A : Type 0} (K : Shape A) (dead : K .free (K .zero) ≡ true) where
 replicate-nobody : (n p : ℕ) → getD (replicate n nobody) p nobody ≡ nobody
 replicate-nobody n p = split (ltb p n)
     (λ t. getD-replicate n p nobody nobody (ltb-true p n t))
-    (λ t. List·getD-eq-default (replicate n nobody) nobody (let l : length (replicate n nobody) ≡ n = length-replicate n nobody in let h : n ≤ p = ltb-false p n t in omega arith))
+    (λ t. getD-past (replicate n nobody) nobody n p (length-replicate n nobody) (ltb-false p n t))
 
 -- ── tables with nothing in them but holders that are no guests ──
-module _ (holders : List ℕ) (region : List Bool) (lh : length holders ≡ pages) (lr : length region ≡ pages) (none : (p : ℕ) → getD holders p nobody < 2) where
-  abbrev nothing : Tables
-  nothing = bare holders region
+module _
+    (holders : List ℕ) (region : List Bool)
+    (lh : length holders ≡ pages) (lr : length region ≡ pages)
+    (none : (p : ℕ) → getD holders p nobody < 2)
+  where
+    abbrev nothing : Tables
+    nothing = bare holders region
 
-  sized-bare : Sized nothing
-  unfolding bare
-  sized-bare = record {
-    map = length-replicate _ _;
-    tlb = length-replicate _ _;
-    io-map = length-replicate _ _;
-    io-tlb = length-replicate _ _;
-    pairs = length-replicate _ _;
-    holder = lh;
-    dma = length-replicate _ _;
-    region = lr;
-    present = length-replicate _ _;
-    running = length-replicate _ _;
-  }
+    sized-bare : Sized nothing
+    unfolding bare
+    sized-bare = record {
+      map = length-replicate _ _;
+      tlb = length-replicate _ _;
+      io-map = length-replicate _ _;
+      io-tlb = length-replicate _ _;
+      pairs = length-replicate _ _;
+      holder = lh;
+      dma = length-replicate _ _;
+      region = lr;
+      present = length-replicate _ _;
+      running = length-replicate _ _;
+    }
 
-  page : (p : ℕ) → PageWf (nothing .present) (holder-of nothing p) (dma-of nothing p) (in-region nothing p)
-  unfolding bare
-  page p = rw (replicate-nobody pages p) (no-guest-page _ _ _ (none p))
+    page : (p : ℕ) → PageWf (nothing .present) (holder-of nothing p) (dma-of nothing p) (in-region nothing p)
+    unfolding bare
+    page p = rw (replicate-nobody pages p) (no-guest-page _ _ _ (none p))
 
-  idle : (u : ℕ) → running-on nothing u ≡ nobody
-  unfolding bare
-  idle u = replicate-nobody units u
+    idle : (u : ℕ) → running-on nothing u ≡ nobody
+    unfolding bare
+    idle u = replicate-nobody units u
 
-  pub bare-wf : Wf (bare holders region)
-  unfolding bare
-  bare-wf = record {
-    sizes = sized-bare;
-    ownership-wf = λ p. page p .owner;
-    iommu-ownership-wf = λ p. page p .dma-owner;
-    no-hypervisor-dma = λ p. page p .no-hypervisor;
-    one-guest = λ p. page p .one;
-    region-not-owned = λ p. page p .not-owned;
-    region-not-iommu-owned = λ p. page p .not-dma-owned;
-    active-vm-wf = λ u g e. let z : guest g ≡ nobody = sym e ∙ idle u in absurd (omega arith);
-    no-hypervisor-runs = λ u e. let z : _≡_ {A = ℕ} 1 nobody = sym e ∙ idle u in omega arith;
-    sharing-wf = each-empty W zero-free pair-room;
-    pair-keys = uniq-empty W zero-free pair-room;
-    translation-wf = elim [ Cpu ↦ each-empty W zero-free map-room | Iommu ↦ each-empty W zero-free map-room ];
-    map-keys = elim [ Cpu ↦ uniq-empty W zero-free map-room | Iommu ↦ uniq-empty W zero-free map-room ];
-    tlb-safe = elim [ Cpu ↦ each-empty W zero-free tlb-room | Iommu ↦ each-empty W zero-free tlb-room ];
-    tlb-range = elim [ Cpu ↦ each-empty W zero-free tlb-room | Iommu ↦ each-empty W zero-free tlb-room ];
-    tlb-keys = elim [ Cpu ↦ uniq-empty W zero-free tlb-room | Iommu ↦ uniq-empty W zero-free tlb-room ];
-  }
+    pub bare-wf : Wf (bare holders region)
+    unfolding bare
+    bare-wf = record {
+      sizes = sized-bare;
+      ownership-wf = λ p. page p .owner;
+      iommu-ownership-wf = λ p. page p .dma-owner;
+      no-hypervisor-dma = λ p. page p .no-hypervisor;
+      one-guest = λ p. page p .one;
+      region-not-owned = λ p. page p .not-owned;
+      region-not-iommu-owned = λ p. page p .not-dma-owned;
+      active-vm-wf = λ u g e. let z : guest g ≡ nobody = sym e ∙ idle u in absurd (omega arith);
+      no-hypervisor-runs = λ u e. let z : _≡_ {A = ℕ} 1 nobody = sym e ∙ idle u in omega arith;
+      sharing-wf = each-empty W zero-free pair-room;
+      pair-keys = uniq-empty W zero-free pair-room;
+      translation-wf = elim [ Cpu ↦ each-empty W zero-free map-room | Iommu ↦ each-empty W zero-free map-room ];
+      map-keys = elim [ Cpu ↦ uniq-empty W zero-free map-room | Iommu ↦ uniq-empty W zero-free map-room ];
+      tlb-safe = elim [ Cpu ↦ each-empty W zero-free tlb-room | Iommu ↦ each-empty W zero-free tlb-room ];
+      tlb-range = elim [ Cpu ↦ each-empty W zero-free tlb-room | Iommu ↦ each-empty W zero-free tlb-room ];
+      tlb-keys = elim [ Cpu ↦ uniq-empty W zero-free tlb-room | Iommu ↦ uniq-empty W zero-free tlb-room ];
+    }
 
 -- ── boot ──
 pool-below : (mask p : ℕ) → pool mask p < 2
@@ -93,7 +97,7 @@ pool-no-guest : (mask p : ℕ) → getD (tabulate pages (pool mask)) p nobody < 
 unfolding Filled
 pool-no-guest mask p = split (ltb p pages)
     (λ t. rw (tabulate-at pages (pool mask) nobody p (ltb-true _ _ t)) (pool-below mask p))
-    (λ t. rw (List·getD-eq-default (tabulate pages (pool mask)) nobody {n = p} (let l : length (tabulate pages (pool mask)) ≡ pages = length-tabulate pages (pool mask) in let h : pages ≤ p = ltb-false _ _ t in omega arith)) (omega arith))
+    (λ t. rw (getD-past (tabulate pages (pool mask)) nobody pages p (length-tabulate pages _) (ltb-false _ _ t)) (omega arith))
 
 pub boot-wf : (hv rg : ℕ) → Wf (boot hv rg)
 unfolding boot

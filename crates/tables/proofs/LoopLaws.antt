@@ -9,7 +9,7 @@ use native.Mathlib.Numerals.{add-one}
 use native.Mathlib.Omega.{arith}
 use lib.Dec.{eqb}
 use borrow.Author.Tests.{eqb-true, eqb-false}
-use lib.ListN.{length, getD, drop, take, set, length-map, length-append, List·getD-append, drop-of-length-le}
+use lib.ListN.{length, getD, drop, take, set, length-map, length-append, List·getD-append, List·getD-eq-default, drop-of-length-le}
 use lib.Seq.{drop-cons, take-all, length-take-le, getD-at, getD-set-same, getD-set-other, ext-getD}
 use Rattle.numbers.specs.Tests.{_and_}
 use Rattle.numbers.proofs.Bools.{split, and-no-l}
@@ -18,6 +18,10 @@ use Rattle.tables.proofs.TableLaws.{has-nil, has-hit, has-skip}
 use Rattle.tables.specs.State.{tabulate, bit, pool}
 
 module _ {A : Type 0} where
+  -- past the end of a list
+  pub getD-past : (l : List A) (d : A) (n p : ℕ) → length l ≡ n → n ≤ p → getD l p d ≡ d
+  getD-past l d n p e h = List·getD-eq-default l d (omega arith)
+
   -- ── a sweep has put f of each row in the place of the first i rows ──
   unfoldable pub Swept : (A → A) → List A → ℕ → List A → Type 0
   Swept f xs i ys = ys ≡ map f (take i xs) ++ drop i xs
@@ -36,12 +40,14 @@ module _ {A : Type 0} where
   swept-next f xs ys i d h q =
       rw (q, drop-cons xs i d h) (getD-at (map f (take i xs)) (getD xs i d) (drop (suc i) xs) d i (length-map (take i xs) f ∙ length-take-le i xs (omega arith)))
 
-  sweep : (f : A → A) (xs : List A) (i : ℕ) (d : A) → i < length xs → set (map f (take i xs) ++ drop i xs) i (f (getD xs i d)) ≡ map f (take (suc i) xs) ++ drop (suc i) xs
+  sweep : (f : A → A) (xs : List A) (i : ℕ) (d : A) → i < length xs →
+      set (map f (take i xs) ++ drop i xs) i (f (getD xs i d)) ≡ map f (take (suc i) xs) ++ drop (suc i) xs
   sweep f [] i d h = absurd (not-suc-le-zero h)
   sweep f (x ∷ xs) zero d h = refl
   sweep f (x ∷ xs) (suc i) d h = ap {B = List A} (λ r. f x ∷ r) (sweep f xs i d (le-of-suc-le-suc h))
 
-  pub swept-more : (f : A → A) (xs ys : List A) (i : ℕ) (d v : A) → i < length xs → Swept f xs i ys → v ≡ f (getD ys i d) → Swept f xs (i + 1) (set ys i v)
+  pub swept-more : (f : A → A) (xs ys : List A) (i : ℕ) (d v : A) → i < length xs → Swept f xs i ys → v ≡ f (getD ys i d) →
+      Swept f xs (i + 1) (set ys i v)
   unfolding Swept
   swept-more f xs ys i d v h q e = rw (add-one, e, swept-next f xs ys i d h q, q) (sweep f xs i d h)
 
@@ -53,17 +59,18 @@ module _ {A : Type 0} where
   unfolding Left
   left-none ok xs = refl
 
-  step : (ok : A → List A → Bool) (xs : List A) (i : ℕ) (d : A) → i < length xs → all ok (drop i xs) ≡ (ok (getD xs i d) (drop (i + 1) xs) and all ok (drop (i + 1) xs))
-  unfolding all
-  step ok xs i d h = rw (add-one, drop-cons xs i d h)
+  module _ (ok : A → List A → Bool) (xs : List A) (i : ℕ) (d : A) (h : i < length xs) (q : Left ok xs i) where
+    step : all ok (drop i xs) ≡ (ok (getD xs i d) (drop (i + 1) xs) and all ok (drop (i + 1) xs))
+    unfolding all
+    step = rw (add-one, drop-cons xs i d h)
 
-  pub left-more : (ok : A → List A → Bool) (xs : List A) (i : ℕ) (d : A) → i < length xs → Left ok xs i → ok (getD xs i d) (drop (i + 1) xs) ≡ true → Left ok xs (i + 1)
-  unfolding Left _and_
-  left-more ok xs i d h q e = q ∙ step ok xs i d h ∙ rw e
+    pub left-more : ok (getD xs i d) (drop (i + 1) xs) ≡ true → Left ok xs (i + 1)
+    unfolding Left _and_
+    left-more e = q ∙ step ∙ rw e
 
-  pub left-no : (ok : A → List A → Bool) (xs : List A) (i : ℕ) (d : A) → i < length xs → Left ok xs i → ok (getD xs i d) (drop (i + 1) xs) ≡ false → all ok xs ≡ false
-  unfolding Left
-  left-no ok xs i d h q e = q ∙ step ok xs i d h ∙ and-no-l _ e
+    pub left-no : ok (getD xs i d) (drop (i + 1) xs) ≡ false → all ok xs ≡ false
+    unfolding Left
+    left-no e = q ∙ step ∙ and-no-l _ e
 
   pub left-end : (ok : A → List A → Bool) (xs : List A) (i : ℕ) → length xs ≤ i → Left ok xs i → all ok xs ≡ true
   unfolding Left all
@@ -112,13 +119,14 @@ module _ {A : Type 0} (K : Shape A) where
   unfolding Beyond
   beyond-none k xs a = refl
 
-  pub beyond-more : (k : A → Bool) (xs : List A) (a j : ℕ) (d : A) → j < length xs → Beyond k xs a j → hit K k (getD xs j d) ≡ false → Beyond k xs a (j + 1)
-  unfolding Beyond
-  beyond-more k xs a j d h q e = q ∙ rw (add-one, drop-cons xs j d h) (has-skip K k (getD xs j d) (drop (suc j) xs) e)
+  module _ (k : A → Bool) (xs : List A) (a j : ℕ) (d : A) (h : j < length xs) (q : Beyond k xs a j) where
+    pub beyond-more : hit K k (getD xs j d) ≡ false → Beyond k xs a (j + 1)
+    unfolding Beyond
+    beyond-more e = q ∙ rw (add-one, drop-cons xs j d h) (has-skip K k (getD xs j d) (drop (suc j) xs) e)
 
-  pub beyond-hit : (k : A → Bool) (xs : List A) (a j : ℕ) (d : A) → j < length xs → Beyond k xs a j → hit K k (getD xs j d) ≡ true → has K k (drop a xs) ≡ true
-  unfolding Beyond
-  beyond-hit k xs a j d h q e = q ∙ rw (drop-cons xs j d h) (has-hit K k (getD xs j d) (drop (suc j) xs) e)
+    pub beyond-hit : hit K k (getD xs j d) ≡ true → has K k (drop a xs) ≡ true
+    unfolding Beyond
+    beyond-hit e = q ∙ rw (drop-cons xs j d h) (has-hit K k (getD xs j d) (drop (suc j) xs) e)
 
   pub beyond-end : (k : A → Bool) (xs : List A) (a j : ℕ) → length xs ≤ j → Beyond k xs a j → has K k (drop a xs) ≡ false
   unfolding Beyond

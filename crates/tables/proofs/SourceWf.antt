@@ -7,7 +7,7 @@ use native.Mathlib.Omega.{arith}
 use Rattle.numbers.specs.Sizes.{guests, gpages}
 use Rattle.numbers.specs.Entries.{key-of, key-in, guest-in, gpage-in, page-in, at-unit}
 use Rattle.numbers.proofs.Bools.{and-l, and-r, and-i, bool-ext}
-use Rattle.numbers.proofs.EntryLaws.{counts-fit, guest-under, gpage-under, key-at-unit, at-unit-live}
+use Rattle.numbers.proofs.EntryLaws.{counts-fit, guest-under, gpage-under, at-unit-live}
 use Rattle.tables.specs.Table.{live, find, has}
 use Rattle.tables.specs.Wants.{W, has-key, joins, shared-by}
 use Rattle.tables.specs.State.{is-present, map-of, tlb-of, may-reach}
@@ -62,7 +62,7 @@ module _ (m : Tables) (w : Wf m) where
     home : (u : ℕ) → in-tlb d m u g v → s2-map d m g v ≡ at-unit 0 (tlb-map d m u g v)
     home u h =
         let y = tlb-map d m u g v in
-        let k : key-in (at-unit 0 y) ≡ key-of 0 g v = key-at-unit 0 y ∙ rw (found-guest u g v hg hv (tlb-of d m) h, found-gpage u g v hg hv (tlb-of d m) h) in
+        let k : key-of 0 (guest-in y) (gpage-in y) ≡ key-of 0 g v = rw (found-guest u g v hg hv (tlb-of d m) h, found-gpage u g v hg hv (tlb-of d m) h) in
         ap (λ (n : ℕ). find W (has-key n) (map-of d m)) (sym k) ∙ each-find W _ (w .tlb-safe d) h
 
     backed : (u : ℕ) → in-tlb d m u g v → in-s2-map d m g v
@@ -79,7 +79,8 @@ source-wf m w = record {
   sharing-3 = λ l r p h. left-there m w r l p (turned m w l r p h);
   sharing-4 = turned m w;
   translation-1 = λ d g v hg hv h. ap (is-present m) (sym (found-guest 0 g v hg hv (map-of d m) h)) ∙ mapped m w d g v hg hv h .present;
-  translation-2 = λ d g v hg hv h. ap (λ (n : ℕ). may-reach d m n (page-in (s2-map d m g v))) (sym (found-guest 0 g v hg hv (map-of d m) h)) ∙ mapped m w d g v hg hv h .entitled;
+  translation-2 = λ d g v hg hv h. ap (λ (n : ℕ). may-reach d m n (page-in (s2-map d m g v)))
+      (sym (found-guest 0 g v hg hv (map-of d m) h)) ∙ mapped m w d g v hg hv h .entitled;
   iommu-ownership-1 = λ g p. w .iommu-ownership-wf p g;
   iommu-ownership-2 = λ g h p n a b. n (omega arith);
   iommu-ownership-3 = λ g h p n a b. n (sym (w .one-guest p h g b a));

@@ -171,7 +171,8 @@ module _ {A : Type 0} (K : Shape A) where
     none-set t i h = each-none j (each-set i r (λ l. no-hit j l off) (none-each j t h))
 
   -- ── and what its own test finds: the row, where no hit stands before it ──
-  pub find-set-same : (k : A → Bool) (r : A) (t : List A) (i : ℕ) → hit K k r ≡ true → i < length t → i ≤ first (hit K k) t → find K k (set t i r) ≡ r
+  pub find-set-same : (k : A → Bool) (r : A) (t : List A) (i : ℕ) → hit K k r ≡ true → i < length t → i ≤ first (hit K k) t →
+      find K k (set t i r) ≡ r
   find-set-same k r [] i on l f = absurd (omega arith)
   find-set-same k r (x ∷ t) zero on l f = find-hit k r t on
   find-set-same k r (x ∷ t) (suc i) on l f = split (hit K k x)
@@ -181,7 +182,8 @@ module _ {A : Type 0} (K : Shape A) where
       find-skip k x (set t i r) h ∙ find-set-same k r t i on (omega arith) (omega arith))
 
   -- a row put over a free place hides nothing
-  pub has-set-free : (k : A → Bool) (r : A) (t : List A) (i : ℕ) → K .free (getD t i (K .zero)) ≡ true → has K k t ≡ true → has K k (set t i r) ≡ true
+  pub has-set-free : (k : A → Bool) (r : A) (t : List A) (i : ℕ) → K .free (getD t i (K .zero)) ≡ true → has K k t ≡ true →
+      has K k (set t i r) ≡ true
   has-set-free k r [] i e h = h
   has-set-free k r (x ∷ t) zero e h = split (hit K k r)
       (λ o. has-hit k r t o)
@@ -208,7 +210,8 @@ module _ {A : Type 0} (K : Shape A) where
     unfolding place
     find-place-other j r t off = find-set-other j r off t _ (free-skip j (free-first t))
 
-    pub find-place-same : (k : A → Bool) (r : A) (t : List A) → hit K k r ≡ true → has K k t ≡ false → full K t ≡ false → find K k (place K r t) ≡ r
+    pub find-place-same : (k : A → Bool) (r : A) (t : List A) → hit K k r ≡ true → has K k t ≡ false → full K t ≡ false →
+        find K k (place K r t) ≡ r
     unfolding place has full
     find-place-same k r t on n f =
         let a : length t ≤ first (hit K k) t = ltb-false _ _ n in
@@ -274,7 +277,8 @@ module _ {A : Type 0} (K : Shape A) where
     unfolding wipe
     find-wipe-other j k [] apart = refl
     find-wipe-other j k (x ∷ t) apart = split (hit K k x)
-        (λ e. rw e (find-skip j (K .zero) (wipe K k t) (free-skip j dead) ∙ find-wipe-other j k t apart ∙ sym (find-skip j x t (and-no-r _ (not-true _ (λ h. clash (and-r _ _ e) (apart x h)))))))
+        (λ e. rw e (find-skip j (K .zero) (wipe K k t) (free-skip j dead) ∙ find-wipe-other j k t apart
+        ∙ sym (find-skip j x t (and-no-r _ (not-true _ (λ h. clash (and-r _ _ e) (apart x h)))))))
         (λ e. rw e (split (hit K j x)
         (λ h. find-hit j x (wipe K k t) h ∙ sym (find-hit j x t h))
         (λ h. find-skip j x (wipe K k t) h ∙ find-wipe-other j k t apart ∙ sym (find-skip j x t h))))

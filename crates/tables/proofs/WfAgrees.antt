@@ -6,7 +6,6 @@ use mathlib.Core.Logic.{_↔_}
 use Prim.Native.Nat.{ℕ, _≤_}
 use native.Mathlib.Omega.{arith}
 use lib.Dec.{ltb}
-use lib.ListN.{length, List·getD-eq-default}
 use borrow.Author.Tests.{eqb-true, eq-eqb, ltb-true, ltb-false}
 use Rattle.numbers.specs.Sizes.{units, pages}
 use Rattle.numbers.specs.Search.{upto}
@@ -21,6 +20,7 @@ use Rattle.tables.specs.declared.state.Tables.{Tables}
 use Rattle.tables.specs.declared.state.Side.{Side}
 use Rattle.tables.specs.declared.state.Side.the-variants.{Cpu, Iommu}
 use Rattle.tables.proofs.TableLaws.{each-map, each-agrees, uniq-agrees}
+use Rattle.tables.proofs.LoopLaws.{getD-past}
 use Rattle.tables.proofs.WfLaws.{sized-agrees, entry-agrees, map-row-agrees, pair-agrees, vm-agrees, PageWf, page-agrees, no-guest-page, nobody-runs}
 
 -- ── a test and a statement that agree on rows agree on tables ──
@@ -78,15 +78,11 @@ module _ (m : Tables) (s : Sized m) where
   )
     where
       past : (p : ℕ) → pages ≤ p → page-ok (m .present) (holder-of m p) (dma-of m p) (in-region m p) ≡ true
-      past p l =
-          let a : length (m .holder) ≡ pages = s .holder in
-          let b : length (m .dma) ≡ pages = s .dma in
-          let c : length (m .region) ≡ pages = s .region in
-          page-agrees _ _ _ _ .1 (rw (
-            List·getD-eq-default (m .holder) nobody {n = p} (omega arith),
-            List·getD-eq-default (m .dma) nobody {n = p} (omega arith),
-            List·getD-eq-default (m .region) false {n = p} (omega arith),
-          ) (no-guest-page (m .present) nobody false (omega arith)))
+      past p l = page-agrees _ _ _ _ .1 (rw (
+        getD-past (m .holder) nobody pages p (s .holder) l,
+        getD-past (m .dma) nobody pages p (s .dma) l,
+        getD-past (m .region) false pages p (s .region) l,
+      ) (no-guest-page (m .present) nobody false (omega arith)))
 
   cpus-agree : cpus-ok (m .present) (m .running) ≡ true ↔ ((u : ℕ) → vm-ok (m .present) (running-on m u) ≡ true)
   unfolding cpus-ok
@@ -96,9 +92,7 @@ module _ (m : Tables) (s : Sized m) where
   )
     where
       past : (u : ℕ) → units ≤ u → vm-ok (m .present) (running-on m u) ≡ true
-      past u l =
-          let a : length (m .running) ≡ units = s .running in
-          rw (List·getD-eq-default (m .running) nobody {n = u} (omega arith)) (nobody-runs (m .present))
+      past u l = rw (getD-past (m .running) nobody units u (s .running) l) (nobody-runs (m .present))
 
 -- ── the whole ──
 pub wf-sound : (m : Tables) → wf m ≡ true → Wf m

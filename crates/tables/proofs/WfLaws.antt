@@ -12,7 +12,7 @@ use Rattle.numbers.specs.Search.{first}
 use Rattle.numbers.specs.Entries.{key-in, at-unit}
 use Rattle.numbers.specs.Tests.{_and_, _or_}
 use Rattle.numbers.proofs.Bools.{split, clash, not-true, and-l, and-r, and-i, or-e, or-il, or-ir, isnt-true, isnt-i}
-use Rattle.numbers.proofs.EntryLaws.{at-unit-live}
+use Rattle.numbers.proofs.EntryLaws.{key-at-unit, at-unit-live}
 use Rattle.tables.specs.Table.{hit}
 use Rattle.tables.specs.Wants.{W, meets}
 use Rattle.tables.specs.Wf.{Sized, EntryWf, MapRowWf, PairWf, vm-ok, page-ok, entry-ok, map-row-ok, pair-ok, cached, sized, in-order, wf}
@@ -26,7 +26,7 @@ use Rattle.tables.proofs.TableLaws.{find-at}
 module _ (map : List ℕ) (y home key j : ℕ) (h : home ≡ at-unit 0 y) (k : key ≡ key-in home) (f : first (hit W (meets (Key key))) map ≡ j) where
   pub cached-at : cached map y ≡ eqb (getD map j 0) home
   unfolding cached
-  cached-at = rw (← h, ← k, find-at W (meets (Key key)) map j f)
+  cached-at = rw (← key-at-unit 0 y, ← h, ← k, find-at W (meets (Key key)) map j f)
 
   -- the search found nothing
   pub cached-past : length map ≤ j → cached map y ≡ false
@@ -70,7 +70,8 @@ pair-agrees m q = (
 )
 
 -- ── who holds or runs ──
-pub vm-agrees : (present : List Bool) (h : ℕ) → vm-ok present h ≡ true ↔ (((g : ℕ) → h ≡ guest g → getD present g false ≡ true) × (h ≡ hypervisor → ⊥))
+pub vm-agrees : (present : List Bool) (h : ℕ) →
+    vm-ok present h ≡ true ↔ (((g : ℕ) → h ≡ guest g → getD present g false ≡ true) × (h ≡ hypervisor → ⊥))
 unfolding vm-ok
 vm-agrees present h = (
   λ e. ⊎-elim

@@ -11,7 +11,7 @@ use lib.ListN.{getD, length}
 use Rattle.numbers.specs.Sizes.{guests, units, pages, gpages, accesses, map-room, tlb-room, pair-room}
 use Rattle.numbers.specs.Tests.{_and_, _or_, isnt}
 use Rattle.numbers.specs.Search.{upto}
-use Rattle.numbers.specs.Entries.{access-in, page-in, key-in, gpage-in, guest-in, unit-in, tag-in, at-unit, left-in, right-in, pair-tag-in}
+use Rattle.numbers.specs.Entries.{key-of, access-in, page-in, key-in, gpage-in, guest-in, unit-in, tag-in, at-unit, left-in, right-in, pair-tag-in}
 use Rattle.tables.specs.Table.{find, Each, each, Uniq, uniq}
 use Rattle.tables.specs.Wants.{W, has-key, same-entry, same-pair}
 use Rattle.tables.specs.State.{nobody, hypervisor, guest, a-guest, guest-of, is-present, in-region, holder-of, dma-of, running-on, map-of, tlb-of, reach, may-reach}
@@ -53,7 +53,7 @@ pub record PairWf (m : Tables) (q : ℕ) : Type 0 where
 
 -- the map's entry for the guest and guest page of a TLB entry
 abbrev pub home-of : List ℕ → ℕ → ℕ
-home-of map y = find W (has-key (key-in (at-unit 0 y))) map
+home-of map y = find W (has-key (key-of 0 (guest-in y) (gpage-in y))) map
 
 -- how many places each table has
 pub record Sized (m : Tables) : Type 0 where

@@ -261,7 +261,18 @@ fn in_order<'a>(
     present: &'a [bool],
     running: &'a [u8],
 ) -> bool
-    ensures { λ r. ⌜ r ≡ in-order (record { map = now (map .entry); tlb = now (tlb .entry); «io_map» = now («io_map» .entry); «io_tlb» = now («io_tlb» .entry); pairs = now (pairs .entry); holder = now (holder .entry); dma = now (dma .entry); region = now (region .entry); present = now (present .entry); running = now (running .entry) }) ⌝ }
+    ensures { λ r. ⌜ r ≡ in-order (record {
+      map = now (map .entry);
+      tlb = now (tlb .entry);
+      «io_map» = now («io_map» .entry);
+      «io_tlb» = now («io_tlb» .entry);
+      pairs = now (pairs .entry);
+      holder = now (holder .entry);
+      dma = now (dma .entry);
+      region = now (region .entry);
+      present = now (present .entry);
+      running = now (running .entry);
+    }) ⌝ }
 {
     let pages = pages_ok(present, holder, dma, region);
     let cpus = cpus_ok(present, running);

@@ -17,7 +17,8 @@ abbrev μ-loop : tie.MeasureT-loop
 
 returns : tie.Need-returns Inv-loop μ-loop
 unfolding row-of kinds
-returns c = ap (λ (n : ℕ). getD kinds n 0) (sym (passed-hit (of-kind _) kinds _ 0 (c .before .loop-test .taken) (c .before .before .loop .inv .1) (eq-eqb _ _ (c .if1 .taken))))
+returns c = ap (λ (n : ℕ). getD kinds n 0)
+    (sym (passed-hit (of-kind _) kinds _ 0 (c .before .loop-test .taken) (c .before .before .loop .inv .1) (eq-eqb _ _ (c .if1 .taken))))
 
 loop-again : tie.Need-loop-again Inv-loop μ-loop
 unfolding kinds

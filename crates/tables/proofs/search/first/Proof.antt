@@ -26,8 +26,13 @@ first-spec =
     (λ c. search needs)
     (λ c. search needs)
     (λ c κs. search needs)
-    (λ c. sym (passed-hit _ _ _ 0 (c .before .before .before .loop-test .taken) (c .before .before .before .before .loop .inv .1) (sym (c .before .hits .ensures) ∙ c .if1 .taken)))
+    (λ c. sym (passed-hit _ _ _ 0 (c .before .before .before .loop-test .taken) (c .before .before .before .before .loop .inv .1)
+    (sym (c .before .hits .ensures) ∙ c .if1 .taken)))
     (λ c. search needs)
     (λ c. search needs)
-    (λ c. (search needs, passed-more _ _ _ 0 (c .before .before .before .loop-test .taken) (c .before .before .before .before .loop .inv .1) (sym (c .before .hits .ensures) ∙ c .if1 .left)))
+    (λ c. (
+      search needs,
+      passed-more _ _ _ 0 (c .before .before .before .loop-test .taken) (c .before .before .before .before .loop .inv .1)
+          (sym (c .before .hits .ensures) ∙ c .if1 .left),
+    ))
     (λ c. omega (arith, passed-end _ _ _ (c .loop-test .left) (c .before .loop .inv .0) (c .before .loop .inv .1))))

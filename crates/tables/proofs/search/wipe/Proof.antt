@@ -34,6 +34,10 @@ wipe-spec =
     (λ c. search needs)
     (λ c. search needs)
     (λ c. search needs)
-    (λ c. (omega arith, (simp length-set) ∙ c .before .before .before .loop .inv .1, swept-more _ _ _ _ 0 _ (omega arith) (c .before .before .before .loop .inv .2) (c .cleared .ensures)))
+    (λ c. (
+      omega arith,
+      (simp length-set) ∙ c .before .before .before .loop .inv .1,
+      swept-more _ _ _ _ 0 _ (omega arith) (c .before .before .before .loop .inv .2) (c .cleared .ensures),
+    ))
     (λ c. search needs)
     returns)

@@ -13,7 +13,10 @@ returns c = rw (← c .before .before .key-of .ensures, ← c .before .find .ens
 
 returns-2 : tie.Need-returns-2
 unfolding effective-entry isnt
-returns-2 c = rw (← c .before .before .before .before .key-of .ensures, ← c .before .before .before .find .ensures, eq-eqb _ _ (c .before .before .if1 .left), ← c .before .key-of2 .ensures) (c .find2 .ensures)
+returns-2 c =
+    let first = c .before .before in
+    rw (← first .before .before .key-of .ensures, ← first .before .find .ensures, eq-eqb _ _ (first .if1 .left), ← c .before .key-of2 .ensures)
+    (c .find2 .ensures)
 
 pub effective-entry-spec : {M : Type 1} → statement M
 effective-entry-spec =

@@ -29,7 +29,7 @@ loop-less c = search needs
 
 loop-again : tie.Need-loop-again Inv-loop μ-loop
 unfolding units
-loop-again c = (search needs, upto-more _ _ (c .before .before .before .before .loop .inv .1) (rw (← c .before .before .who .ensures, ← c .before .vm-ok .ensures) (not-false _ (c .if2 .left))))
+loop-again c = (search needs, upto-more _ _ (c .before .before .before .before .loop .inv .1) (cc (not-false (c .before .vm-ok .result) (c .if2 .left))))
 
 returns : tie.Need-returns Inv-loop μ-loop
 unfolding cpus-ok units
@@ -37,7 +37,7 @@ returns c = let e : c .before .loop .u ≡ units = omega arith in sym (rw e at (
 
 returns-2 : tie.Need-returns-2 Inv-loop μ-loop
 unfolding cpus-ok units
-returns-2 c = sym (upto-no _ _ (c .before .before .before .before .loop .u) (omega arith) (rw (← c .before .before .who .ensures, ← c .before .vm-ok .ensures) (not-true _ (c .if2 .taken))))
+returns-2 c = sym (upto-no _ _ (c .before .before .before .before .loop .u) (omega arith) (cc (not-true (c .before .vm-ok .result) (c .if2 .taken))))
 
 pub cpus-ok-spec : {M : Type 1} → statement M
 cpus-ok-spec =

@@ -29,7 +29,10 @@ loop-less c = search needs
 
 loop-again : tie.Need-loop-again Inv-loop μ-loop
 unfolding pages
-loop-again c = (search needs, upto-more _ _ (c .before .before .before .before .before .before .loop .inv .1) (rw (← c .before .before .before .before .who .ensures, ← c .before .before .before .who2 .ensures, ← c .before .before .flag .ensures, ← c .before .page-ok .ensures) (not-false _ (c .if2 .left))))
+loop-again c = (
+  search needs,
+  upto-more _ _ (c .before .before .before .before .before .before .loop .inv .1) (cc (not-false (c .before .page-ok .result) (c .if2 .left))),
+)
 
 returns : tie.Need-returns Inv-loop μ-loop
 unfolding pages-ok pages
@@ -37,7 +40,7 @@ returns c = let e : c .before .loop .p ≡ pages = omega arith in sym (rw e at (
 
 returns-2 : tie.Need-returns-2 Inv-loop μ-loop
 unfolding pages-ok pages
-returns-2 c = sym (upto-no _ _ (c .before .before .before .before .before .before .loop .p) (omega arith) (rw (← c .before .before .before .before .who .ensures, ← c .before .before .before .who2 .ensures, ← c .before .before .flag .ensures, ← c .before .page-ok .ensures) (not-true _ (c .if2 .taken))))
+returns-2 c = sym (upto-no _ _ (c .before .before .before .before .before .before .loop .p) (omega arith) (cc (not-true (c .before .page-ok .result) (c .if2 .taken))))
 
 pub pages-ok-spec : {M : Type 1} → statement M
 pages-ok-spec =

@@ -20,7 +20,11 @@ abbrev μ-loop : tie.MeasureT-loop
 
 loop-again : tie.Need-loop-again Inv-loop μ-loop
 unfolding isnt _or_
-loop-again c = (search needs, left-more _ _ _ 0 (c .before .before .before .if1 .left) (c .before .before .before .before .loop .inv .1) (rw (← c .before .row-ok .ensures) (not-false _ (c .if2 .left))))
+loop-again c = (
+  search needs,
+  left-more _ _ _ 0 (c .before .before .before .if1 .left) (c .before .before .before .before .loop .inv .1)
+      (rw (← c .before .row-ok .ensures) (not-false _ (c .if2 .left))),
+)
 
 returns : tie.Need-returns Inv-loop μ-loop
 unfolding each
@@ -28,7 +32,8 @@ returns c = sym (left-end _ _ _ (c .if1 .taken) (c .before .loop .inv .1))
 
 returns-2 : tie.Need-returns-2 Inv-loop μ-loop
 unfolding each isnt _or_
-returns-2 c = sym (left-no _ _ _ 0 (c .before .before .before .if1 .left) (c .before .before .before .before .loop .inv .1) (rw (← c .before .row-ok .ensures) (not-true _ (c .if2 .taken))))
+returns-2 c = sym (left-no _ _ _ 0 (c .before .before .before .if1 .left) (c .before .before .before .before .loop .inv .1)
+    (rw (← c .before .row-ok .ensures) (not-true _ (c .if2 .taken))))
 
 pub rows-ok-spec : {M : Type 1} → statement M
 rows-ok-spec =

@@ -30,11 +30,13 @@ abbrev μ-rows : tie.MeasureT-rows
 μ-rows map tlb i₀ i = length tlb - i
 
 rows-again : tie.Need-rows-again Inv-loop μ-loop Inv-rows μ-rows
-rows-again c = (
+rows-again c = let row = c .before .before in (
   search needs,
-  left-more _ _ _ 0 (c .before .before .if1 .left) (c .before .before .before .rows .inv .1)
+  left-more _ _ _ 0 (row .if1 .left) (row .before .rows .inv .1)
       (⊎-elim
-      (λ w. or-ir _ (cached-at _ _ _ _ _ (w .1 .ensures) (w .2 .ensures) (passed-hit _ _ _ 0 (w .4 .left) (w .3 .inv .1) (sym (w .6 .ensures) ∙ w .7 .taken)) ∙ eq-eqb _ _ (w .9 .left)))
+      (λ w. or-ir _ (cached-at _ _ _ _ _ (w .1 .ensures) (w .2 .ensures)
+      (passed-hit _ _ _ 0 (w .4 .left) (w .3 .inv .1) (sym (w .6 .ensures) ∙ w .7 .taken))
+      ∙ eq-eqb _ _ (w .9 .left)))
       (λ w. or-il _ (isnt-i (isnt-no (eq-eqb _ _ (w .left)))))
       (c .if2 .came)),
 )
@@ -45,15 +47,24 @@ returns c = sym (left-end _ _ _ (c .if1 .taken) (c .before .rows .inv .1))
 
 returns-2 : tie.Need-returns-2 Inv-loop μ-loop Inv-rows μ-rows
 unfolding each
-returns-2 c = sym (left-no _ _ _ 0 (c .before .before .before .before .before .before .if1 .left) (c .before .before .before .before .before .before .before .rows .inv .1)
-    (or-no (isnt-no (isnt-i (ne-eqb _ _ (c .before .before .before .before .if2 .taken))))
-    (cached-past _ _ _ _ _ (c .before .before .before .at-unit .ensures) (c .before .before .key-in .ensures) (passed-end _ _ _ (c .if3 .taken) (c .before .loop .inv .0) (c .before .loop .inv .1)) (omega arith))))
+returns-2 c =
+    let inner = c .before in let start = inner .before .before in let row = start .before .before .before in
+    sym (left-no _ _ _ 0 (row .if1 .left) (row .before .rows .inv .1)
+    (or-no
+    (isnt-no (isnt-i (ne-eqb _ _ (start .before .if2 .taken))))
+    (cached-past _ _ _ _ _ (start .at-unit .ensures) (inner .before .key-in .ensures)
+    (passed-end _ _ _ (c .if3 .taken) (inner .loop .inv .0) (inner .loop .inv .1)) (omega arith))))
 
 returns-3 : tie.Need-returns-3 Inv-loop μ-loop Inv-rows μ-rows
 unfolding each
-returns-3 c = sym (left-no _ _ _ 0 (c .before .before .before .before .before .before .before .before .before .before .before .if1 .left) (c .before .before .before .before .before .before .before .before .before .before .before .before .rows .inv .1)
-    (or-no (isnt-no (isnt-i (ne-eqb _ _ (c .before .before .before .before .before .before .before .before .before .if2 .taken))))
-    (cached-at _ _ _ _ _ (c .before .before .before .before .before .before .before .before .at-unit .ensures) (c .before .before .before .before .before .before .before .key-in .ensures) (passed-hit _ _ _ 0 (c .before .before .before .before .before .if3 .left) (c .before .before .before .before .before .before .loop .inv .1) (sym (c .before .before .before .hits .ensures) ∙ c .before .before .if4 .taken)) ∙ ne-eqb _ _ (c .if5 .taken))))
+returns-3 c =
+    let inner = c .before .before .before .before .before in let start = inner .before .before .before in let row = start .before .before .before in
+    sym (left-no _ _ _ 0 (row .if1 .left) (row .before .rows .inv .1)
+    (or-no
+    (isnt-no (isnt-i (ne-eqb _ _ (start .before .if2 .taken))))
+    (cached-at _ _ _ _ _ (start .at-unit .ensures) (inner .before .before .key-in .ensures)
+    (passed-hit _ _ _ 0 (inner .if3 .left) (inner .before .loop .inv .1) (sym (c .before .before .before .hits .ensures) ∙ c .before .before .if4 .taken))
+    ∙ ne-eqb _ _ (c .if5 .taken))))
 
 pub tlb-safe-spec : {M : Type 1} → statement M
 tlb-safe-spec =
@@ -74,7 +85,11 @@ tlb-safe-spec =
     (λ c κs. search needs)
     (λ c. search needs)
     (λ c. search needs)
-    (λ c. (search needs, passed-more _ _ _ 0 (c .before .before .before .if3 .left) (c .before .before .before .before .loop .inv .1) (sym (c .before .hits .ensures) ∙ c .if4 .left)))
+    (λ c. (
+      search needs,
+      passed-more _ _ _ 0 (c .before .before .before .if3 .left) (c .before .before .before .before .loop .inv .1)
+          (sym (c .before .hits .ensures) ∙ c .if4 .left),
+    ))
     (λ c. search needs)
     (λ c. search needs)
     (λ c. search needs)

@@ -42,8 +42,13 @@ returns c = sym (left-end _ _ _ (c .if1 .taken) (c .before .rows .inv .1))
 
 returns-2 : tie.Need-returns-2 Inv-loop μ-loop Inv-rows μ-rows
 unfolding uniq
-returns-2 c = sym (left-no _ _ _ 0 (c .before .before .before .before .before .before .before .before .if1 .left) (c .before .before .before .before .before .before .before .before .before .rows .inv .1)
-    (or-no (isnt-no (isnt-i (ne-eqb _ _ (c .before .before .before .before .before .before .if2 .taken)))) (isnt-no (rw (← c .before .before .before .before .before .same-as .ensures) (beyond-hit _ _ _ _ _ 0 (c .before .before .before .loop-test .left) (c .before .before .before .before .loop .inv .1) (sym (c .before .hits .ensures) ∙ c .if3 .taken))))))
+returns-2 c =
+    let inner = c .before .before .before in let start = inner .before .before in let row = start .before .before .before in
+    sym (left-no _ _ _ 0 (row .if1 .left) (row .before .rows .inv .1)
+    (or-no
+    (isnt-no (isnt-i (ne-eqb _ _ (start .before .if2 .taken))))
+    (isnt-no (rw (← start .same-as .ensures)
+    (beyond-hit _ _ _ _ _ 0 (inner .loop-test .left) (inner .before .loop .inv .1) (sym (c .before .hits .ensures) ∙ c .if3 .taken))))))
 
 pub unique-spec : {M : Type 1} → statement M
 unique-spec =
@@ -64,7 +69,11 @@ unique-spec =
     (λ c κs. search needs)
     (λ c. search needs)
     (λ c. search needs)
-    (λ c. (search needs, beyond-more _ _ _ _ _ 0 (c .before .before .before .loop-test .left) (c .before .before .before .before .loop .inv .1) (sym (c .before .hits .ensures) ∙ c .if3 .left)))
+    (λ c. (
+      search needs,
+      beyond-more _ _ _ _ _ 0 (c .before .before .before .loop-test .left) (c .before .before .before .before .loop .inv .1)
+          (sym (c .before .hits .ensures) ∙ c .if3 .left),
+    ))
     (λ c. search needs)
     (λ c. search needs)
     rows-again

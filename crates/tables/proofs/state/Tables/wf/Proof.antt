@@ -9,7 +9,7 @@ use Rattle.tables.proofs.state.Tables.wf.Tie as tie
 
 returns : tie.Need-returns
 unfolding in-order guests units pages map-room tlb-room pair-room
-returns c = c .in-order .ensures ∙ wf-sized (c .before .before .before .before .before .before .before .before .before .before .before .before .before .before .before .before .before .before .before .before .before .before .args .t1) (search needs)
+returns c = c .in-order .ensures ∙ wf-sized _ (search needs)
 
 pub wf-spec : {M : Type 1} → statement M
 wf-spec = tie.close (tie.spec (λ c κs. search needs) returns)
