@@ -6,7 +6,7 @@ use lib.Dec.{eqb, leb}
 use lib.ListN.{getD, replicate}
 use Rattle.numbers.specs.Sizes.{guests, units, pages, map-room, tlb-room, pair-room}
 use Rattle.numbers.specs.Tests.{_and_, _or_, isnt}
-use Rattle.numbers.specs.Entries.{key-of}
+use Rattle.numbers.specs.Entries.{key-of, readable, writable}
 use Rattle.tables.specs.Table.{live, find, has}
 use Rattle.tables.specs.Wants.{W, has-key, to-page, shared-with}
 use Rattle.tables.specs.declared.state.Tables.{Tables}
@@ -82,10 +82,19 @@ found w = cond (live W w) (Entry w) Nothing
 abbrev pub lookup : List ℕ → List ℕ → ℕ → ℕ → ℕ → Found
 lookup map tlb u g v = found (effective-entry map tlb u g v)
 
--- 9: no translation
-abbrev pub lookup-number : Found → ℕ
-lookup-number (Entry w) = 0
-lookup-number Nothing = 9
+-- what it allows
+abbrev pub can-read : Found → Bool
+can-read (Entry w) = readable w
+can-read Nothing = false
+
+abbrev pub can-write : Found → Bool
+can-write (Entry w) = writable w
+can-write Nothing = false
+
+-- 9: no translation; 10: access not allowed
+abbrev pub access-number : Found → Bool → ℕ
+access-number (Entry w) allowed = cond allowed 0 10
+access-number Nothing allowed = 9
 
 -- ── nothing leads to a page any more ──
 abbrev pub iommu-page-is-quiescent : List ℕ → List ℕ → ℕ → Bool
