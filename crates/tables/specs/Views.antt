@@ -47,7 +47,8 @@ tlb-map d m u g v = find W (has-key (key-of u g v)) (tlb-of d m)
 abbrev pub in-tlb : Side → Tables → ℕ → ℕ → ℕ → Type 0
 in-tlb d m u g v = has W (has-key (key-of u g v)) (tlb-of d m) ≡ true
 
--- ── `wf`: each function's clauses in their order; `sync` and `iommu_sync` are one map ──
+-- ── `wf`: each function's clauses in their order; `sync` and `iommu_sync` are one map. The guest and the guest page of a key are in
+-- range, as an action's are: other numbers are nobody's key, though their word may look like one ──
 pub record SourceWf (m : Tables) : Type 0 where
   pub ownership-1 : (g p : ℕ) → vm-owned m g p → all-vms m g
   pub ownership-2 : (g h p : ℕ) → (g ≡ h → ⊥) → vm-owned m g p → vm-owned m h p → ⊥

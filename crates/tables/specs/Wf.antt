@@ -144,11 +144,18 @@ same-as Pairs q = Pair (left-in q) (right-in q) (page-in q)
 unfoldable pub cached : List ℕ → ℕ → Bool
 cached map y = eqb (home-of map y) (at-unit 0 y)
 
+-- each page, and each CPU
+abbrev pub page-at : List Bool → List ℕ → List ℕ → List Bool → ℕ → Bool
+page-at present holder dma region p = page-ok present (getD holder p nobody) (getD dma p nobody) (getD region p false)
+
 unfoldable pub pages-ok : List Bool → List ℕ → List ℕ → List Bool → Bool
-pages-ok present holder dma region = upto pages (λ p. page-ok present (getD holder p nobody) (getD dma p nobody) (getD region p false))
+pages-ok present holder dma region = upto pages (page-at present holder dma region)
+
+abbrev pub cpu-at : List Bool → List ℕ → ℕ → Bool
+cpu-at present running u = vm-ok present (getD running u nobody)
 
 unfoldable pub cpus-ok : List Bool → List ℕ → Bool
-cpus-ok present running = upto units (λ u. vm-ok present (getD running u nobody))
+cpus-ok present running = upto units (cpu-at present running)
 
 unfoldable pub walk-ok : Side → List ℕ → List ℕ → List Bool → List ℕ → List ℕ → List Bool → Bool
 walk-ok d map tlb present held pairs region =

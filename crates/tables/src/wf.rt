@@ -2,7 +2,7 @@
 ghost use mathlib.Core.Path.{_≡_};
 ghost use Rattle.tables.specs.Table.{each, uniq};
 ghost use Rattle.tables.specs.Wants.{W, meets};
-ghost use Rattle.tables.specs.Wf.{vm-ok, page-ok, pages-ok, cpus-ok, entry-ok, map-row-ok, pair-ok, row-ok, same-as, cached, walk-ok, in-order, wf};
+ghost use Rattle.tables.specs.Wf.{vm-ok, page-ok, page-at, cpu-at, pages-ok, cpus-ok, entry-ok, map-row-ok, pair-ok, row-ok, same-as, cached, walk-ok, in-order, wf};
 use crate::search;
 use crate::search::Want;
 use crate::state;
@@ -113,6 +113,29 @@ fn same_as(rows: Rows, word: u32) -> Want
     }
 }
 
+fn page_at<'a>(
+    present: &'a [bool],
+    holder: &'a [u8],
+    dma: &'a [u8],
+    region: &'a [bool],
+    p: usize,
+) -> bool
+    ensures { λ r. ⌜ r ≡ page-at (now (present .entry)) (now (holder .entry)) (now (dma .entry)) (now (region .entry)) p ⌝ }
+{
+    page_ok(
+        present,
+        state::who(holder, p),
+        state::who(dma, p),
+        state::flag(region, p),
+    )
+}
+
+fn cpu_at<'a>(present: &'a [bool], running: &'a [u8], u: usize) -> bool
+    ensures { λ r. ⌜ r ≡ cpu-at (now (present .entry)) (now (running .entry)) u ⌝ }
+{
+    vm_ok(present, state::who(running, u))
+}
+
 // ── whole tables: each loop is left at the first place that settles the answer ──
 fn pages_ok<'a>(present: &'a [bool], holder: &'a [u8], dma: &'a [u8], region: &'a [bool]) -> bool
     ensures { λ r. ⌜ r ≡ pages-ok (now (present .entry)) (now (holder .entry)) (now (dma .entry)) (now (region .entry)) ⌝ }
@@ -122,10 +145,7 @@ fn pages_ok<'a>(present: &'a [bool], holder: &'a [u8], dma: &'a [u8], region: &'
         if Tables::PAGES <= p {
             break true;
         }
-        let held = state::who(holder, p);
-        let lent = state::who(dma, p);
-        let shared = state::flag(region, p);
-        if !page_ok(present, held, lent, shared) {
+        if !page_at(present, holder, dma, region, p) {
             break false;
         }
         p += 1;
@@ -140,7 +160,7 @@ fn cpus_ok<'a>(present: &'a [bool], running: &'a [u8]) -> bool
         if Tables::UNITS <= u {
             break true;
         }
-        if !vm_ok(present, state::who(running, u)) {
+        if !cpu_at(present, running, u) {
             break false;
         }
         u += 1;

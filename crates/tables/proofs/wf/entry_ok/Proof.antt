@@ -8,7 +8,14 @@ use Rattle.tables.proofs.wf.entry_ok.Tie as tie
 
 returns : tie.Need-returns
 unfolding entry-ok _and_ units guests gpages pages accesses
-returns c = cc
+returns c = rw (
+  c .before .before .before .before .before .tag-in .ensures,
+  c .before .before .before .before .unit-in .ensures,
+  c .before .before .before .guest-in .ensures,
+  c .before .before .gpage-in .ensures,
+  c .before .page-in .ensures,
+  c .access-in .ensures,
+)
 
 pub entry-ok-spec : {M : Type 1} → statement M
 entry-ok-spec =

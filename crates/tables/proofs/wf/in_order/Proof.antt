@@ -7,7 +7,14 @@ use Rattle.tables.proofs.wf.in_order.Tie as tie
 
 returns : tie.Need-returns
 unfolding in-order _and_
-returns c = cc
+returns c = rw (
+  c .before .before .before .before .before .pages-ok .ensures,
+  c .before .before .before .before .cpus-ok .ensures,
+  c .before .before .before .rows-ok .ensures,
+  c .before .before .unique .ensures,
+  c .before .walk-ok .ensures,
+  c .walk-ok2 .ensures,
+)
 
 pub in-order-spec : {M : Type 1} → statement M
 in-order-spec =

@@ -7,7 +7,14 @@ use Rattle.tables.proofs.wf.map_row_ok.Tie as tie
 
 returns : tie.Need-returns
 unfolding map-row-ok _and_
-returns c = cc
+returns c = rw (
+  c .before .entry-ok .ensures,
+  c .unit-in .ensures,
+  c .before .before .before .before .flag .ensures,
+  c .before .before .reach .ensures,
+  c .before .before .before .before .before .guest-in .ensures,
+  c .before .before .before .page-in .ensures,
+)
 
 pub map-row-ok-spec : {M : Type 1} → statement M
 map-row-ok-spec =

@@ -7,7 +7,7 @@ use Rattle.tables.proofs.wf.page_ok.Tie as tie
 
 returns : tie.Need-returns
 unfolding page-ok _and_ _or_ isnt
-returns c = cc
+returns c = rw (c .before .vm-ok .ensures, c .vm-ok2 .ensures)
 
 pub page-ok-spec : {M : Type 1} → statement M
 page-ok-spec = tie.close (tie.spec (λ c κs. search needs) (λ c κs. search needs) returns)

@@ -1,20 +1,19 @@
 -- `tables::wf::pages_ok` meets its contract.
-use mathlib.Core.Bool.{true, false}
-use mathlib.Core.Path.{_≡_, sym}
+use mathlib.Core.Bool.{true}
+use mathlib.Core.Path.{_≡_, sym, _∙_}
 use Prim.Native.Nat.{_≤_, _-_}
 use native.Mathlib.Omega.{arith}
-use lib.ListN.{getD}
 use borrow.Author.Needs.{needs}
 use borrow.Author.Tests.{not-true, not-false}
 use Rattle.numbers.proofs.SearchLaws.{upto-none, upto-more, upto-no}
 use Rattle.numbers.specs.Search.{upto}
 use Rattle.numbers.specs.Sizes.{pages}
-use Rattle.tables.specs.Wf.{page-ok, pages-ok}
+use Rattle.tables.specs.Wf.{page-at, pages-ok}
 use Rattle.tables.proofs.wf.pages_ok.Statement.{statement}
 use Rattle.tables.proofs.wf.pages_ok.Tie as tie
 
 abbrev Inv-loop : tie.InvT-loop
-Inv-loop present holder dma region p₀ p = (p ≤ pages) × (upto p (λ q. page-ok present (getD holder q 0) (getD dma q 0) (getD region q false)) ≡ true)
+Inv-loop present holder dma region p₀ p = (p ≤ pages) × (upto p (page-at present holder dma region) ≡ true)
 
 abbrev μ-loop : tie.MeasureT-loop
 μ-loop present holder dma region p₀ p = pages - p
@@ -29,10 +28,7 @@ loop-less c = search needs
 
 loop-again : tie.Need-loop-again Inv-loop μ-loop
 unfolding pages
-loop-again c = (
-  search needs,
-  upto-more _ _ (c .before .before .before .before .before .before .loop .inv .1) (cc (not-false (c .before .page-ok .result) (c .if2 .left))),
-)
+loop-again c = (search needs, upto-more _ _ (c .before .before .before .loop .inv .1) (sym (c .before .page-at .ensures) ∙ not-false _ (c .if2 .left)))
 
 returns : tie.Need-returns Inv-loop μ-loop
 unfolding pages-ok pages
@@ -40,7 +36,7 @@ returns c = let e : c .before .loop .p ≡ pages = omega arith in sym (rw e at (
 
 returns-2 : tie.Need-returns-2 Inv-loop μ-loop
 unfolding pages-ok pages
-returns-2 c = sym (upto-no _ _ (c .before .before .before .before .before .before .loop .p) (omega arith) (cc (not-true (c .before .page-ok .result) (c .if2 .taken))))
+returns-2 c = sym (upto-no _ _ (c .before .before .before .loop .p) (omega arith) (sym (c .before .page-at .ensures) ∙ not-true _ (c .if2 .taken)))
 
 pub pages-ok-spec : {M : Type 1} → statement M
 pages-ok-spec =
@@ -49,9 +45,6 @@ pages-ok-spec =
     Inv-loop
     μ-loop
     loop-holds
-    (λ c κs. search needs)
-    (λ c κs. search needs)
-    (λ c κs. search needs)
     (λ c κs. search needs)
     (λ c. search needs)
     loop-less

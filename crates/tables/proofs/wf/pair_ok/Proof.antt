@@ -8,7 +8,15 @@ use Rattle.tables.proofs.wf.pair_ok.Tie as tie
 
 returns : tie.Need-returns
 unfolding pair-ok _and_ isnt guests pages
-returns c = cc
+returns c = rw (
+  c .before .before .before .before .pair-tag-in .ensures,
+  c .before .flag .ensures,
+  c .flag2 .ensures,
+  c .before .before .before .before .before .before .left-in .ensures,
+  c .before .before .before .before .before .right-in .ensures,
+  c .before .before .before .page-in .ensures,
+  c .before .before .access-in .ensures,
+)
 
 pub pair-ok-spec : {M : Type 1} → statement M
 pair-ok-spec =

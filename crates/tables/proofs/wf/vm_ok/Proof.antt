@@ -7,7 +7,7 @@ use Rattle.tables.proofs.wf.vm_ok.Tie as tie
 
 returns : tie.Need-returns
 unfolding vm-ok _and_ _or_
-returns c = cc
+returns c = rw (c .flag .ensures, c .before .guest-of .ensures)
 
 pub vm-ok-spec : {M : Type 1} → statement M
 vm-ok-spec = tie.close (tie.spec (λ c κs. search needs) (λ c κs. search needs) returns)

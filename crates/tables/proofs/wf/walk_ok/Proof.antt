@@ -7,7 +7,13 @@ use Rattle.tables.proofs.wf.walk_ok.Tie as tie
 
 returns : tie.Need-returns
 unfolding walk-ok _and_
-returns c = cc
+returns c = rw (
+  c .before .before .before .before .rows-ok .ensures,
+  c .before .before .before .unique .ensures,
+  c .before .before .rows-ok2 .ensures,
+  c .before .unique2 .ensures,
+  c .tlb-safe .ensures,
+)
 
 pub walk-ok-spec : {M : Type 1} → statement M
 walk-ok-spec =

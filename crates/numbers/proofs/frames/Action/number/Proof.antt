@@ -7,7 +7,14 @@ use Rattle.numbers.proofs.frames.Action.number.Tie as tie
 
 returns : tie.Need-returns
 unfolding frame-number least
-returns c = cc
+returns c = rw (
+  c .rule3 .ensures,
+  c .before .rule2 .ensures,
+  c .before .before .rule .ensures,
+  c .before .before .before .beyond .ensures,
+  c .before .before .before .before .stray .ensures,
+  c .before .before .before .before .before .row-of .ensures,
+)
 
 pub number-spec : {M : Type 1} → statement M
 number-spec =
