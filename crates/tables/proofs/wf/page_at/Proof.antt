@@ -5,4 +5,10 @@ use Rattle.tables.proofs.wf.page_at.Tie as tie
 
 pub page-at-spec : {M : Type 1} → statement M
 page-at-spec =
-    tie.close (tie.spec (λ c κs. search needs) (λ c κs. search needs) (λ c κs. search needs) (λ c κs. search needs) (λ c. rw (c .page-ok .ensures, c .before .before .before .who .ensures, c .before .before .who2 .ensures, c .before .flag .ensures)))
+    tie.close
+    (tie.spec
+    (λ c κs. search needs)
+    (λ c κs. search needs)
+    (λ c κs. search needs)
+    (λ c κs. search needs)
+    (λ c. rw (c .page-ok .ensures, c .before .before .before .who .ensures, c .before .before .who2 .ensures, c .before .flag .ensures)))

@@ -14,7 +14,8 @@ use Rattle.tables.proofs.state.Tables.boot.Tie as tie
 
 abbrev Inv-loop : tie.InvT-loop
 Inv-loop hypervisor region holders₀ shared₀ h₀ r₀ p₀ holders shared h r p =
-    (p ≤ pages) × (h ≡ hypervisor / 2 ^ p) × (r ≡ region / 2 ^ p) × (length holders ≡ pages) × (length shared ≡ pages) × Filled (pool hypervisor) 0 holders p × Filled (bit region) false shared p
+    (p ≤ pages) × (h ≡ hypervisor / 2 ^ p) × (r ≡ region / 2 ^ p) × (length holders ≡ pages) × (length shared ≡ pages)
+    × Filled (pool hypervisor) 0 holders p × Filled (bit region) false shared p
 
 abbrev μ-loop : tie.MeasureT-loop
 μ-loop hypervisor region holders₀ shared₀ h₀ r₀ p₀ holders shared h r p = pages - p
