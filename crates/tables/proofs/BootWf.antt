@@ -12,12 +12,12 @@ use Rattle.numbers.proofs.Bools.{split, clash, isnt-no}
 use Rattle.tables.specs.Table.{Shape, Each, Uniq}
 use Rattle.tables.specs.Wants.{W}
 use Rattle.tables.specs.State.{nobody, bit, pool, tabulate, bare, empty, boot, holder-of, dma-of, in-region, running-on, guest}
-use Rattle.tables.specs.Wf.{Wf, Sized, wf}
+use Rattle.tables.specs.Wf.{Wf, PageWf, WalkWf, Sized, wf}
 use Rattle.tables.specs.declared.state.Tables.{Tables}
 use Rattle.tables.specs.declared.state.Side.the-variants.{Cpu, Iommu}
 use Rattle.tables.proofs.WantLaws.{zero-free}
 use Rattle.tables.proofs.LoopLaws.{getD-past, Filled, length-tabulate, tabulate-at}
-use Rattle.tables.proofs.WfLaws.{PageWf, no-guest-page}
+use Rattle.tables.proofs.WfLaws.{vm-agrees, no-guest-page, nobody-runs}
 use Rattle.tables.proofs.WfAgrees.{wf-complete}
 
 -- ── an empty table ──
@@ -29,6 +29,15 @@ module _ {A : Type 0} (K : Shape A) (dead : K .free (K .zero) ≡ true) where
   uniq-empty : {s : A → A → Bool} (n : ℕ) → Uniq K s (replicate n (K .zero))
   uniq-empty zero = Uniq.none
   uniq-empty (suc n) = Uniq.more (λ l. clash l (isnt-no dead)) (uniq-empty n)
+
+walk-empty : {here : List Bool} {may : ℕ → ℕ → Bool} → WalkWf here may (replicate map-room 0) (replicate tlb-room 0)
+walk-empty = record {
+  translation-wf = each-empty W zero-free map-room;
+  map-keys = uniq-empty W zero-free map-room;
+  tlb-safe = each-empty W zero-free tlb-room;
+  tlb-range = each-empty W zero-free tlb-room;
+  tlb-keys = uniq-empty W zero-free tlb-room;
+}
 
 -- a list of nobodies, also past its end
 replicate-nobody : (n p : ℕ) → getD (replicate n nobody) p nobody ≡ nobody
@@ -72,21 +81,11 @@ module _
     unfolding bare
     bare-wf = record {
       sizes = sized-bare;
-      ownership-wf = λ p. page p .owner;
-      iommu-ownership-wf = λ p. page p .dma-owner;
-      no-hypervisor-dma = λ p. page p .no-hypervisor;
-      one-guest = λ p. page p .one;
-      region-not-owned = λ p. page p .not-owned;
-      region-not-iommu-owned = λ p. page p .not-dma-owned;
-      active-vm-wf = λ u g e. let z : guest g ≡ nobody = sym e ∙ idle u in absurd (omega arith);
-      no-hypervisor-runs = λ u e. let z : _≡_ {A = ℕ} 1 nobody = sym e ∙ idle u in omega arith;
+      pages-wf = page;
+      cpus-wf = λ u. rw (idle u) (vm-agrees _ nobody .0 (nobody-runs _));
       sharing-wf = each-empty W zero-free pair-room;
       pair-keys = uniq-empty W zero-free pair-room;
-      translation-wf = elim [ Cpu ↦ each-empty W zero-free map-room | Iommu ↦ each-empty W zero-free map-room ];
-      map-keys = elim [ Cpu ↦ uniq-empty W zero-free map-room | Iommu ↦ uniq-empty W zero-free map-room ];
-      tlb-safe = elim [ Cpu ↦ each-empty W zero-free tlb-room | Iommu ↦ each-empty W zero-free tlb-room ];
-      tlb-range = elim [ Cpu ↦ each-empty W zero-free tlb-room | Iommu ↦ each-empty W zero-free tlb-room ];
-      tlb-keys = elim [ Cpu ↦ uniq-empty W zero-free tlb-room | Iommu ↦ uniq-empty W zero-free tlb-room ];
+      walks-wf = elim [ Cpu ↦ walk-empty | Iommu ↦ walk-empty ];
     }
 
 -- ── boot ──

@@ -4,4 +4,5 @@ pub mod LoopLaws
 pub mod WfLaws
 pub mod WfAgrees
 pub mod BootWf
+pub mod ViewLaws
 pub mod SourceWf

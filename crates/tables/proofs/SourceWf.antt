@@ -1,92 +1,91 @@
 -- Tables in good order meet every clause of the source's `wf`.
-use mathlib.Core.Path.{_≡_, sym, ap, _∙_}
+use mathlib.Core.Path.{_≡_, sym, ap, _∙_, subst}
 use mathlib.Core.Bool.{true, true≢false}
-use mathlib.Core.Logic.{⊎-elim, inl, inr}
+use mathlib.Core.List.{List, []}
+use mathlib.Core.Logic.{⊎-elim}
 use Prim.Native.Nat.{ℕ, _<_}
 use native.Mathlib.Omega.{arith}
-use Rattle.numbers.specs.Sizes.{guests, gpages}
-use Rattle.numbers.specs.Entries.{key-of, key-in, guest-in, gpage-in, page-in, at-unit}
-use Rattle.numbers.proofs.Bools.{and-l, and-r, and-i, bool-ext}
-use Rattle.numbers.proofs.EntryLaws.{counts-fit, guest-under, gpage-under, at-unit-live}
+use borrow.Author.Tests.{eqb-true}
+use Rattle.numbers.specs.Sizes.{units}
+use Rattle.numbers.specs.Entries.{key-of, guest-in, gpage-in, page-in, at-unit}
+use Rattle.numbers.proofs.Bools.{and-r}
+use Rattle.numbers.proofs.EntryLaws.{at-unit-live}
 use Rattle.tables.specs.Table.{live, find, has}
-use Rattle.tables.specs.Wants.{W, has-key, joins, shared-by}
-use Rattle.tables.specs.State.{is-present, map-of, tlb-of, may-reach}
+use Rattle.tables.specs.Wants.{W, has-key, shared-by}
+use Rattle.tables.specs.State.{hypervisor, guest, is-present, map-of, tlb-of, may-reach}
 use Rattle.tables.specs.Wf.{Wf, PairWf, MapRowWf}
-use Rattle.tables.specs.Views.{SourceWf, shared-pages, s2-map, in-s2-map, tlb-map, in-tlb}
+use Rattle.tables.specs.Views.{SourceWf, MachineState, view, entry-at, entitled, in-s2-map, in-tlb}
 use Rattle.tables.specs.declared.state.Tables.{Tables}
 use Rattle.tables.specs.declared.state.Side.{Side}
-use Rattle.tables.proofs.TableLaws.{find-passes, each-find, each-all, has-ext, live-find}
-use Rattle.tables.proofs.WantLaws.{Ends, zero-free, live-pos, has-key-agrees, joins-agrees}
+use Rattle.tables.proofs.TableLaws.{find-passes, each-find, live-find}
+use Rattle.tables.proofs.WantLaws.{Ends, zero-free, live-pos, joins-agrees}
+use Rattle.tables.proofs.ViewLaws.{Keyed, guest-is, gpage-is, entry-in, entry-keyed, entry-there, turned, reach-agrees}
 
--- ── what a search by key finds stands under that key ──
-module _ (u g v : ℕ) (hg : g < guests) (hv : v < gpages) (t : _) (h : has W (has-key (key-of u g v)) t ≡ true) where
-  found-key : key-in (find W (has-key (key-of u g v)) t) ≡ key-of u g v
-  found-key = sym (has-key-agrees _ _ .0 (and-r _ _ (find-passes W (has-key (key-of u g v)) t h)))
+some-unit : 0 < units
+unfolding units
+some-unit = omega arith
 
-  pub found-guest : guest-in (find W (has-key (key-of u g v)) t) ≡ g
-  found-guest = guest-under u g v _ (counts-fit .guest g hg) (counts-fit .gpage v hv) found-key
+-- one number names one guest, and none that is the hypervisor's
+one-guest : (n g h : ℕ) → n ≡ guest g → n ≡ guest h → g ≡ h
+one-guest n g h a b = omega arith
 
-  pub found-gpage : gpage-in (find W (has-key (key-of u g v)) t) ≡ v
-  found-gpage = gpage-under u g v _ (counts-fit .guest g hg) (counts-fit .gpage v hv) found-key
+no-guest : (n g : ℕ) → n ≡ guest g → n ≡ hypervisor → ⊥
+no-guest n g a b = omega arith
 
 module _ (m : Tables) (w : Wf m) where
   -- ── pairs ──
-  pair-found : (l r p : ℕ) → shared-pages m l r p → PairWf m (find W (shared-by l r p) (m .pairs)) × Ends l r (find W (shared-by l r p) (m .pairs))
+  pair-found : (l r p : ℕ) → has W (shared-by l r p) (m .pairs) ≡ true →
+      PairWf (m .present) (find W (shared-by l r p) (m .pairs)) × Ends l r (find W (shared-by l r p) (m .pairs))
   pair-found l r p h = (
     each-find W (shared-by l r p) (w .sharing-wf) h,
     joins-agrees _ _ _ .0 (and-r _ _ (and-r _ _ (find-passes W (shared-by l r p) (m .pairs) h))),
   )
 
-  ends-differ : (l r p : ℕ) → shared-pages m l r p → l ≡ r → ⊥
+  ends-differ : (l r p : ℕ) → has W (shared-by l r p) (m .pairs) ≡ true → l ≡ r → ⊥
   ends-differ l r p h e = let q = pair-found l r p h in
       ⊎-elim (λ z. q .0 .differ (sym (z .0) ∙ e ∙ z .1)) (λ z. q .0 .differ (sym (z .1) ∙ sym e ∙ z .0)) (q .1)
 
-  left-there : (l r p : ℕ) → shared-pages m l r p → is-present m l ≡ true
+  left-there : (l r p : ℕ) → has W (shared-by l r p) (m .pairs) ≡ true → is-present m l ≡ true
   left-there l r p h = let q = pair-found l r p h in
       ⊎-elim (λ z. ap (is-present m) (z .0) ∙ q .0 .left-present) (λ z. ap (is-present m) (z .0) ∙ q .0 .right-present) (q .1)
 
-  joins-turned : (l r q : ℕ) → joins l r q ≡ true → joins r l q ≡ true
-  joins-turned l r q e = joins-agrees r l q .1 (⊎-elim (λ z. inr (z .1, z .0)) (λ z. inl (z .1, z .0)) (joins-agrees l r q .0 e))
-
-  turned : (l r p : ℕ) → shared-pages m l r p → shared-pages m r l p
-  turned l r p h = sym (has-ext W (shared-by l r p) (shared-by r l p) (each-all W (m .pairs) (λ q v. bool-ext _ _
-      (λ e. and-i (and-l _ _ e) (joins-turned l r q (and-r _ _ e)))
-      (λ e. and-i (and-l _ _ e) (joins-turned r l q (and-r _ _ e)))))) ∙ h
-
   -- ── maps and TLBs ──
-  module _ (d : Side) (g v : ℕ) (hg : g < guests) (hv : v < gpages) where
-    mapped : in-s2-map d m g v → MapRowWf d m (s2-map d m g v)
-    mapped h = each-find W _ (w .translation-wf d) h
+  module _ (d : Side) (g v : ℕ) where
+    mapped : in-s2-map d (view m []) g v → MapRowWf (m .present) (may-reach d m) (entry-at (map-of d m) 0 g v) × (guest-in (entry-at (map-of d m) 0 g v) ≡ g)
+    mapped h =
+        let k = entry-keyed (map-of d m) 0 g v h in let t = entry-there (map-of d m) 0 g v h in
+        rw (entry-in (map-of d m) 0 g v k)
+        (each-find W _ (w .walks-wf d .translation-wf) t, guest-is 0 g v k _ (and-r _ _ (find-passes W _ (map-of d m) t)))
 
     -- the map's entry is the TLB's at unit 0
-    home : (u : ℕ) → in-tlb d m u g v → s2-map d m g v ≡ at-unit 0 (tlb-map d m u g v)
+    home : (u : ℕ) → in-tlb d (view m []) u g v → entry-at (map-of d m) 0 g v ≡ at-unit 0 (entry-at (tlb-of d m) u g v)
     home u h =
-        let y = tlb-map d m u g v in
-        let k : key-of 0 (guest-in y) (gpage-in y) ≡ key-of 0 g v = rw (found-guest u g v hg hv (tlb-of d m) h, found-gpage u g v hg hv (tlb-of d m) h) in
-        ap (λ (n : ℕ). find W (has-key n) (map-of d m)) (sym k) ∙ each-find W _ (w .tlb-safe d) h
+        let k = entry-keyed (tlb-of d m) u g v h in let t = entry-there (tlb-of d m) u g v h in
+        let z = and-r _ _ (find-passes W (has-key (key-of u g v)) (tlb-of d m) t) in
+        let n : Keyed 0 g v = record { unit = some-unit; guest = k .guest; gpage = k .gpage } in
+        let y = find W (has-key (key-of u g v)) (tlb-of d m) in
+        let e : key-of 0 (guest-in y) (gpage-in y) ≡ key-of 0 g v = rw (guest-is u g v k y z, gpage-is u g v k y z) in
+        rw (entry-in (tlb-of d m) u g v k, entry-in (map-of d m) 0 g v n)
+        (ap (λ (n : ℕ). find W (has-key n) (map-of d m)) (sym e) ∙ each-find W _ (w .walks-wf d .tlb-safe) t)
 
-    backed : (u : ℕ) → in-tlb d m u g v → in-s2-map d m g v
-    backed u h = sym (live-find W zero-free (has-key (key-of 0 g v)) (map-of d m))
-        ∙ ap (live W) (home u h) ∙ live-pos _ (at-unit-live 0 (tlb-map d m u g v))
-
-pub source-wf : (m : Tables) → Wf m → SourceWf m
-source-wf m w = record {
-  ownership-1 = λ g p. w .ownership-wf p g;
-  ownership-2 = λ g h p n a b. n (omega arith);
-  ownership-3 = λ g p a b. omega arith;
+pub source-wf : (m : Tables) (ws : List ℕ) → Wf m → SourceWf (view m ws)
+source-wf m ws w = record {
+  ownership-1 = λ g p e. w .pages-wf p .ownership-wf g (eqb-true _ _ e);
+  ownership-2 = λ g h p n a b. n (one-guest _ g h (eqb-true _ _ a) (eqb-true _ _ b));
+  ownership-3 = λ g p a b. no-guest _ g (eqb-true _ _ a) (eqb-true _ _ b);
   sharing-1 = ends-differ m w;
   sharing-2 = left-there m w;
-  sharing-3 = λ l r p h. left-there m w r l p (turned m w l r p h);
-  sharing-4 = turned m w;
-  translation-1 = λ d g v hg hv h. ap (is-present m) (sym (found-guest 0 g v hg hv (map-of d m) h)) ∙ mapped m w d g v hg hv h .present;
-  translation-2 = λ d g v hg hv h. ap (λ (n : ℕ). may-reach d m n (page-in (s2-map d m g v)))
-      (sym (found-guest 0 g v hg hv (map-of d m) h)) ∙ mapped m w d g v hg hv h .entitled;
-  iommu-ownership-1 = λ g p. w .iommu-ownership-wf p g;
-  iommu-ownership-2 = λ g h p n a b. n (omega arith);
-  iommu-ownership-3 = λ g h p n a b. n (sym (w .one-guest p h g b a));
-  iommu-ownership-4 = λ g p a b. true≢false (sym b ∙ w .region-not-iommu-owned p g a);
-  iommu-ownership-5 = λ g p a b. true≢false (sym b ∙ w .region-not-owned p g a);
-  active-vm-1 = w .active-vm-wf;
-  tlb-safe-1 = λ d u g v hg hv h. backed m w d g v hg hv u h;
-  tlb-safe-2 = λ d u g v hg hv h. sym (home m w d g v hg hv u h);
+  sharing-3 = λ l r p h. left-there m w r l p (turned r l p (m .pairs) ∙ h);
+  sharing-4 = λ l r p h. turned r l p (m .pairs) ∙ h;
+  translation-1 = λ d g v h. ap (is-present m) (sym (mapped m w d g v h .1)) ∙ mapped m w d g v h .0 .present;
+  translation-2 = λ d g v h. reach-agrees m ws g _ d .0
+      (subst (λ (n : ℕ). may-reach d m n (page-in (entry-at (map-of d m) 0 g v)) ≡ true) (mapped m w d g v h .1) (mapped m w d g v h .0 .entitled));
+  iommu-ownership-1 = λ g p e. w .pages-wf p .iommu-ownership-wf g (eqb-true _ _ e);
+  iommu-ownership-2 = λ g h p n a b. n (one-guest _ g h (eqb-true _ _ a) (eqb-true _ _ b));
+  iommu-ownership-3 = λ g h p n a b. n (sym (w .pages-wf p .one-guest h g (eqb-true _ _ b) (eqb-true _ _ a)));
+  iommu-ownership-4 = λ g p a b. true≢false (sym b ∙ w .pages-wf p .region-not-iommu-owned g (eqb-true _ _ a));
+  iommu-ownership-5 = λ g p a b. true≢false (sym b ∙ w .pages-wf p .region-not-owned g (eqb-true _ _ a));
+  active-vm-1 = λ u. w .cpus-wf u .active-vm-wf;
+  tlb-safe-1 = λ d u g v h. ap (live W) (home m w d g v u h) ∙ live-pos _ (at-unit-live 0 _);
+  tlb-safe-2 = λ d u g v h. sym (home m w d g v u h);
 }

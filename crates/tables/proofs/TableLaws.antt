@@ -1,5 +1,5 @@
 -- The laws of the bounded table, over any row type and any test of a key.
-use mathlib.Core.Path.{_≡_, refl, sym, _∙_, subst}
+use mathlib.Core.Path.{_≡_, refl, sym, _∙_, ap, subst}
 use mathlib.Core.Bool.{Bool, true, false}
 use mathlib.Core.List.{List, [], _∷_, map}
 use mathlib.Core.Logic.{_↔_}
@@ -9,7 +9,7 @@ use lib.Dec.{ltb, leb·suc-suc}
 use lib.ListN.{length, getD, set, length-set, length-map, List·getD-eq-default, List·getD-map}
 use borrow.Author.Tests.{lt-ltb, ltb-true, ltb-false, leb-false, lt-leb}
 use Rattle.numbers.specs.Search.{first}
-use Rattle.numbers.proofs.Bools.{split, clash, not-true, bool-ext, and-l, and-r, and-i, and-no-l, and-no-r, isnt-true, isnt-i, isnt-no, implies, implied}
+use Rattle.numbers.proofs.Bools.{split, clash, not-true, not-false, bool-ext, and-l, and-r, and-i, and-no-l, and-no-r, isnt-true, isnt-i, isnt-no, implies, implied}
 use Rattle.numbers.proofs.SearchLaws.{first-hit, first-skip, first-passes, first-lowest}
 use Rattle.tables.specs.Table.{Shape, all, live, hit, find, has, full, no-room, place, seat, put, cleared, wipe, Each, each, Uniq, uniq}
 
@@ -124,6 +124,10 @@ module _ {A : Type 0} (K : Shape A) where
       (λ e. clash (and-r _ _ e) (p (and-l _ _ e)))
       (λ e. has-skip k x t e ∙ each-none k q)
 
+  -- what one test finds, another that it passes finds too
+  pub has-also : (j k : A → Bool) (t : List A) → has K j t ≡ true → k (find K j t) ≡ true → has K k t ≡ true
+  has-also j k t h e = not-false _ (λ n. clash e (each-find j (none-each k t n) h))
+
   -- tests that agree on live rows find the same
   hit-ext : (j k : A → Bool) (x : A) → (live K x ≡ true → j x ≡ k x) → hit K j x ≡ hit K k x
   hit-ext j k x f = split (live K x) (λ l. rw (f l)) (λ l. and-no-l _ l ∙ sym (and-no-l _ l))
@@ -210,6 +214,9 @@ module _ {A : Type 0} (K : Shape A) where
     unfolding place
     find-place-other j r t off = find-set-other j r off t _ (free-skip j (free-first t))
 
+    pub has-place-other : (j : A → Bool) (r : A) (t : List A) → hit K j r ≡ false → has K j (place K r t) ≡ has K j t
+    has-place-other j r t off = sym (live-find j (place K r t)) ∙ ap (live K) (find-place-other j r t off) ∙ live-find j t
+
     pub find-place-same : (k : A → Bool) (r : A) (t : List A) → hit K k r ≡ true → has K k t ≡ false → full K t ≡ false →
         find K k (place K r t) ≡ r
     unfolding place has full
@@ -282,6 +289,9 @@ module _ {A : Type 0} (K : Shape A) where
         (λ e. rw e (split (hit K j x)
         (λ h. find-hit j x (wipe K k t) h ∙ sym (find-hit j x t h))
         (λ h. find-skip j x (wipe K k t) h ∙ find-wipe-other j k t apart ∙ sym (find-skip j x t h))))
+
+    pub has-wipe-other : (j k : A → Bool) (t : List A) → Apart j k → has K j (wipe K k t) ≡ has K j t
+    has-wipe-other j k t apart = sym (live-find j (wipe K k t)) ∙ ap (live K) (find-wipe-other j k t apart) ∙ live-find j t
 
     pub none-wipe : (j k : A → Bool) (t : List A) → has K j t ≡ false → has K j (wipe K k t) ≡ false
     none-wipe j k t h = each-none j (each-map (λ x l p. p .0) (each-wipe k (none-each j t h)))

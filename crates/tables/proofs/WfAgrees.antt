@@ -14,14 +14,14 @@ use Rattle.numbers.proofs.Bools.{split, and-l, and-r, and-i}
 use Rattle.numbers.proofs.SearchLaws.{upto-at, upto-i}
 use Rattle.tables.specs.Table.{Each, each, Uniq}
 use Rattle.tables.specs.Wants.{W, same-entry, same-pair}
-use Rattle.tables.specs.State.{nobody, holder-of, dma-of, in-region, running-on, map-of, tlb-of, held-on}
-use Rattle.tables.specs.Wf.{EntryWf, MapRowWf, Sized, Wf, home-of, vm-ok, page-ok, pages-ok, cpus-ok, cached, walk-ok, in-order, wf}
+use Rattle.tables.specs.State.{nobody, holder-of, dma-of, in-region, running-on, map-of, tlb-of, held-on, may-reach}
+use Rattle.tables.specs.Wf.{EntryWf, MapRowWf, WalkWf, PageWf, Sized, Wf, home-of, vm-ok, page-ok, pages-ok, cpus-ok, cached, walk-ok, in-order, wf}
 use Rattle.tables.specs.declared.state.Tables.{Tables}
 use Rattle.tables.specs.declared.state.Side.{Side}
 use Rattle.tables.specs.declared.state.Side.the-variants.{Cpu, Iommu}
 use Rattle.tables.proofs.TableLaws.{each-map, each-agrees, uniq-agrees}
 use Rattle.tables.proofs.LoopLaws.{getD-past}
-use Rattle.tables.proofs.WfLaws.{sized-agrees, entry-agrees, map-row-agrees, pair-agrees, vm-agrees, PageWf, page-agrees, no-guest-page, nobody-runs}
+use Rattle.tables.proofs.WfLaws.{sized-agrees, entry-agrees, map-row-agrees, pair-agrees, vm-agrees, page-agrees, no-guest-page, nobody-runs}
 
 -- ── a test and a statement that agree on rows agree on tables ──
 rows-agree : (p : ℕ → Bool) (P : ℕ → Type 0) → ((x : ℕ) → p x ≡ true ↔ P x) → (t : List ℕ) → each W p t ≡ true ↔ Each W P t
@@ -31,18 +31,11 @@ rows-agree p P f t = (
 )
 
 -- ── one side ──
-record Walk (d : Side) (m : Tables) : Type 0 where
-  translation-wf : Each W (MapRowWf d m) (map-of d m)
-  map-keys : Uniq W same-entry (map-of d m)
-  tlb-range : Each W EntryWf (tlb-of d m)
-  tlb-keys : Uniq W same-entry (tlb-of d m)
-  tlb-safe : Each W (λ y. home-of (map-of d m) y ≡ at-unit 0 y) (tlb-of d m)
-
 cached-agrees : (map : List ℕ) (y : ℕ) → cached map y ≡ true ↔ (home-of map y ≡ at-unit 0 y)
 unfolding cached
 cached-agrees map y = (eqb-true _ _, eq-eqb _ _)
 
-walk-agrees : (d : Side) (m : Tables) → walk-ok d (map-of d m) (tlb-of d m) (m .present) (held-on d m) (m .pairs) (m .region) ≡ true ↔ Walk d m
+walk-agrees : (d : Side) (m : Tables) → walk-ok d (map-of d m) (tlb-of d m) (m .present) (held-on d m) (m .pairs) (m .region) ≡ true ↔ WalkWf (m .present) (may-reach d m) (map-of d m) (tlb-of d m)
 unfolding walk-ok
 walk-agrees d m = (
   λ e.
@@ -100,52 +93,24 @@ unfolding wf in-order page-wf
 wf-sound m e =
     let s = sized-agrees m .0 (and-l _ _ e) in let e₀ = and-r _ _ e in let e₁ = and-r _ _ e₀ in let e₂ = and-r _ _ e₁ in
     let e₃ = and-r _ _ e₂ in let e₄ = and-r _ _ e₃ in
-    let page = pages-agree m s .0 (and-l _ _ e₀) in let cpu = cpus-agree m s .0 (and-l _ _ e₁) in
-    let walk : (d : Side) → Walk d m = elim [ Cpu ↦ walk-agrees Cpu m .0 (and-l _ _ e₄) | Iommu ↦ walk-agrees Iommu m .0 (and-r _ _ e₄) ] in
     record {
       sizes = s;
-      ownership-wf = λ p. page p .owner;
-      iommu-ownership-wf = λ p. page p .dma-owner;
-      no-hypervisor-dma = λ p. page p .no-hypervisor;
-      one-guest = λ p. page p .one;
-      region-not-owned = λ p. page p .not-owned;
-      region-not-iommu-owned = λ p. page p .not-dma-owned;
-      active-vm-wf = λ u. vm-agrees _ _ .0 (cpu u) .0;
-      no-hypervisor-runs = λ u. vm-agrees _ _ .0 (cpu u) .1;
-      sharing-wf = rows-agree _ _ (pair-agrees m) (m .pairs) .0 (and-l _ _ e₂);
+      pages-wf = pages-agree m s .0 (and-l _ _ e₀);
+      cpus-wf = λ u. vm-agrees _ _ .0 (cpus-agree m s .0 (and-l _ _ e₁) u);
+      sharing-wf = rows-agree _ _ (pair-agrees (m .present)) (m .pairs) .0 (and-l _ _ e₂);
       pair-keys = uniq-agrees W same-pair (m .pairs) .0 (and-l _ _ e₃);
-      translation-wf = λ d. walk d .translation-wf;
-      map-keys = λ d. walk d .map-keys;
-      tlb-safe = λ d. walk d .tlb-safe;
-      tlb-range = λ d. walk d .tlb-range;
-      tlb-keys = λ d. walk d .tlb-keys;
+      walks-wf = elim [ Cpu ↦ walk-agrees Cpu m .0 (and-l _ _ e₄) | Iommu ↦ walk-agrees Iommu m .0 (and-r _ _ e₄) ];
     }
 
 pub wf-complete : (m : Tables) → Wf m → wf m ≡ true
 unfolding wf in-order page-wf
 wf-complete m h =
     and-i (sized-agrees m .1 (h .sizes))
-    (and-i (pages-agree m (h .sizes) .1 (λ p. record {
-      owner = h .ownership-wf p;
-      dma-owner = h .iommu-ownership-wf p;
-      no-hypervisor = h .no-hypervisor-dma p;
-      one = h .one-guest p;
-      not-owned = h .region-not-owned p;
-      not-dma-owned = h .region-not-iommu-owned p;
-    }))
-    (and-i (cpus-agree m (h .sizes) .1 (λ u. vm-agrees _ _ .1 (h .active-vm-wf u, h .no-hypervisor-runs u)))
-    (and-i (rows-agree _ _ (pair-agrees m) (m .pairs) .1 (h .sharing-wf))
+    (and-i (pages-agree m (h .sizes) .1 (h .pages-wf))
+    (and-i (cpus-agree m (h .sizes) .1 (λ u. vm-agrees _ _ .1 (h .cpus-wf u)))
+    (and-i (rows-agree _ _ (pair-agrees (m .present)) (m .pairs) .1 (h .sharing-wf))
     (and-i (uniq-agrees W same-pair (m .pairs) .1 (h .pair-keys))
-    (and-i (walk-agrees Cpu m .1 (walk Cpu)) (walk-agrees Iommu m .1 (walk Iommu)))))))
-  where
-    walk : (d : Side) → Walk d m
-    walk d = record {
-      translation-wf = h .translation-wf d;
-      map-keys = h .map-keys d;
-      tlb-range = h .tlb-range d;
-      tlb-keys = h .tlb-keys d;
-      tlb-safe = h .tlb-safe d;
-    }
+    (and-i (walk-agrees Cpu m .1 (h .walks-wf Cpu)) (walk-agrees Iommu m .1 (h .walks-wf Iommu)))))))
 
 pub wf-agrees : (m : Tables) → wf m ≡ true ↔ Wf m
 wf-agrees m = (wf-sound m, wf-complete m)

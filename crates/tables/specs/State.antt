@@ -1,6 +1,6 @@
 -- The tables: who holds what, the two sides, lookup, quiescence, boot.
 use Prim.Native.Nat.{ℕ, zero, suc, _+_, _-_, _/_, _%_, _^_}
-use mathlib.Core.Bool.{Bool, false, cond}
+use mathlib.Core.Bool.{Bool, true, false, cond}
 use mathlib.Core.List.{List, [], _∷_, _++_}
 use lib.Dec.{eqb, leb}
 use lib.ListN.{getD, replicate}
@@ -82,7 +82,12 @@ found w = cond (live W w) (Entry w) Nothing
 abbrev pub lookup : List ℕ → List ℕ → ℕ → ℕ → ℕ → Found
 lookup map tlb u g v = found (effective-entry map tlb u g v)
 
--- what it allows
+-- 9: no translation
+abbrev pub nothing : Found → Bool
+nothing (Entry w) = false
+nothing Nothing = true
+
+-- 10: access not allowed
 abbrev pub can-read : Found → Bool
 can-read (Entry w) = readable w
 can-read Nothing = false
@@ -90,11 +95,6 @@ can-read Nothing = false
 abbrev pub can-write : Found → Bool
 can-write (Entry w) = writable w
 can-write Nothing = false
-
--- 9: no translation; 10: access not allowed
-abbrev pub access-number : Found → Bool → ℕ
-access-number (Entry w) allowed = cond allowed 0 10
-access-number Nothing allowed = 9
 
 -- ── nothing leads to a page any more ──
 abbrev pub iommu-page-is-quiescent : List ℕ → List ℕ → ℕ → Bool

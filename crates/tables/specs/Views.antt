@@ -1,69 +1,95 @@
--- The source's state, read off these tables under its own names, and its `wf` clause by clause. A guest, a page, a guest page and
--- a unit are numbers; a set is the statement that something is in it; a map gives the entry of a key, or 0 where it has none.
-use Prim.Native.Nat.{ℕ, _<_}
+-- The source's state, read off these tables and a memory under its own names, and its `wf` clause by clause. A guest, a page, a
+-- guest page and a unit are numbers. A set is a test. A map gives the entry of a key, or 0 where it has none; only numbers in range
+-- are keys.
+use Prim.Native.Nat.{ℕ}
 use mathlib.Core.Path.{_≡_}
-use mathlib.Core.Bool.{true}
-use Rattle.numbers.specs.Sizes.{guests, gpages}
+use mathlib.Core.Bool.{Bool, true, cond}
+use mathlib.Core.List.{List}
+use mathlib.Core.Logic.{_⊎_}
+use lib.Dec.{eqb, ltb}
+use Rattle.numbers.specs.Sizes.{guests, units, gpages}
+use Rattle.numbers.specs.Tests.{_and_, _or_}
 use Rattle.numbers.specs.Entries.{key-of, page-in, at-unit}
-use Rattle.tables.specs.Table.{find, has}
+use Rattle.tables.specs.Table.{live, find, has}
 use Rattle.tables.specs.Wants.{W, has-key, shared-by}
-use Rattle.tables.specs.State.{hypervisor, guest, is-present, in-region, holder-of, dma-of, running-on, map-of, tlb-of, may-reach}
+use Rattle.tables.specs.State.{hypervisor, guest, is-present, in-region, holder-of, dma-of, running-on, map-of, tlb-of}
 use Rattle.tables.specs.declared.state.Tables.{Tables}
 use Rattle.tables.specs.declared.state.Side.{Side}
+use Rattle.tables.specs.declared.state.Side.the-variants.{Cpu, Iommu}
 
--- ── sets ──
-abbrev pub all-vms : Tables → ℕ → Type 0
-all-vms m g = is-present m g ≡ true
+-- `s2-map` at Cpu is the source's `s2_map` and its `hw_s2map`, at Iommu its `iommu_s2_map` and its `iommu_hw_s2map`: one stored map
+-- each, so that `sync` and `iommu_sync` have nothing left to say. `tlb` at Cpu is its `tlb`, at Iommu its `iommu_tlb`. A guest that
+-- owns nothing has the empty set: `vm_owned` and `iommu_owned` have their domain by themselves.
+pub record MachineState : Type 0 where
+  pub all-vms : ℕ → Bool
+  pub hypervisor-owned : ℕ → Bool
+  pub vm-owned : ℕ → ℕ → Bool
+  pub shared-pages : ℕ → ℕ → ℕ → Bool
+  pub s2-map : Side → ℕ → ℕ → ℕ
+  pub iommu-owned : ℕ → ℕ → Bool
+  pub iommu-shared : ℕ → Bool
+  pub tlb : Side → ℕ → ℕ → ℕ → ℕ
+  pub active-vm : ℕ → ℕ
+  pub memory : List ℕ
 
-abbrev pub hypervisor-owned : Tables → ℕ → Type 0
-hypervisor-owned m p = holder-of m p ≡ hypervisor
+-- the entry under a key
+unfoldable pub entry-at : List ℕ → ℕ → ℕ → ℕ → ℕ
+entry-at t u g v = cond (ltb u units and ltb g guests and ltb v gpages) (find W (has-key (key-of u g v)) t) 0
 
-abbrev pub vm-owned : Tables → ℕ → ℕ → Type 0
-vm-owned m g p = holder-of m p ≡ guest g
+abbrev pub view : Tables → List ℕ → MachineState
+view m ws = record {
+  all-vms = λ g. is-present m g;
+  hypervisor-owned = λ p. eqb (holder-of m p) hypervisor;
+  vm-owned = λ g p. eqb (holder-of m p) (guest g);
+  -- both directions of a pair
+  shared-pages = λ l r p. has W (shared-by l r p) (m .pairs);
+  s2-map = λ d g v. entry-at (map-of d m) 0 g v;
+  iommu-owned = λ g p. eqb (dma-of m p) (guest g);
+  iommu-shared = λ p. in-region m p;
+  tlb = λ d u g v. entry-at (tlb-of d m) u g v;
+  active-vm = λ u. running-on m u;
+  memory = ws;
+}
 
-abbrev pub iommu-owned : Tables → ℕ → ℕ → Type 0
-iommu-owned m g p = dma-of m p ≡ guest g
+-- ── tests of the state ──
+abbrev pub in-s2-map : Side → MachineState → ℕ → ℕ → Type 0
+in-s2-map d s g v = live W (s .s2-map d g v) ≡ true
 
-abbrev pub iommu-shared : Tables → ℕ → Type 0
-iommu-shared m p = in-region m p ≡ true
+abbrev pub in-tlb : Side → MachineState → ℕ → ℕ → ℕ → Type 0
+in-tlb d s u g v = live W (s .tlb d u g v) ≡ true
 
--- both directions of a pair
-abbrev pub shared-pages : Tables → ℕ → ℕ → ℕ → Type 0
-shared-pages m l r p = has W (shared-by l r p) (m .pairs) ≡ true
+abbrev pub cpu-runs : MachineState → ℕ → ℕ → Type 0
+cpu-runs s u g = s .active-vm u ≡ guest g
 
-abbrev pub active-vm : Tables → ℕ → ℕ → Type 0
-active-vm m u g = running-on m u ≡ guest g
+-- some edge on the page has the guest as an end
+pub record shared-with (s : MachineState) (g p : ℕ) : Type 0 where
+  pub other : ℕ
+  pub edge : (s .shared-pages g other p or s .shared-pages other g p) ≡ true
 
--- ── maps, on either side: `s2_map` and `hw_s2map` at Cpu, `iommu_s2_map` and `iommu_hw_s2map` at Iommu ──
-abbrev pub s2-map : Side → Tables → ℕ → ℕ → ℕ
-s2-map d m g v = find W (has-key (key-of 0 g v)) (map-of d m)
+abbrev pub owned-or-shared : MachineState → ℕ → ℕ → Type 0
+owned-or-shared s g p = (s .vm-owned g p ≡ true) ⊎ shared-with s g p
 
-abbrev pub in-s2-map : Side → Tables → ℕ → ℕ → Type 0
-in-s2-map d m g v = has W (has-key (key-of 0 g v)) (map-of d m) ≡ true
+-- where a guest's entries may lead: `translation_wf` at Cpu, `iommu_translation_wf` at Iommu
+abbrev pub entitled : Side → MachineState → ℕ → ℕ → Type 0
+entitled Cpu s g p = owned-or-shared s g p
+entitled Iommu s g p = (s .iommu-owned g p ≡ true) ⊎ (s .iommu-shared p ≡ true)
 
-abbrev pub tlb-map : Side → Tables → ℕ → ℕ → ℕ → ℕ
-tlb-map d m u g v = find W (has-key (key-of u g v)) (tlb-of d m)
-
-abbrev pub in-tlb : Side → Tables → ℕ → ℕ → ℕ → Type 0
-in-tlb d m u g v = has W (has-key (key-of u g v)) (tlb-of d m) ≡ true
-
--- ── `wf`: each function's clauses in their order; `sync` and `iommu_sync` are one map. The guest and the guest page of a key are in
--- range, as an action's are: other numbers are nobody's key, though their word may look like one ──
-pub record SourceWf (m : Tables) : Type 0 where
-  pub ownership-1 : (g p : ℕ) → vm-owned m g p → all-vms m g
-  pub ownership-2 : (g h p : ℕ) → (g ≡ h → ⊥) → vm-owned m g p → vm-owned m h p → ⊥
-  pub ownership-3 : (g p : ℕ) → vm-owned m g p → hypervisor-owned m p → ⊥
-  pub sharing-1 : (l r p : ℕ) → shared-pages m l r p → l ≡ r → ⊥
-  pub sharing-2 : (l r p : ℕ) → shared-pages m l r p → all-vms m l
-  pub sharing-3 : (l r p : ℕ) → shared-pages m l r p → all-vms m r
-  pub sharing-4 : (l r p : ℕ) → shared-pages m l r p → shared-pages m r l p
-  pub translation-1 : (d : Side) (g v : ℕ) → g < guests → v < gpages → in-s2-map d m g v → all-vms m g
-  pub translation-2 : (d : Side) (g v : ℕ) → g < guests → v < gpages → in-s2-map d m g v → may-reach d m g (page-in (s2-map d m g v)) ≡ true
-  pub iommu-ownership-1 : (g p : ℕ) → iommu-owned m g p → all-vms m g
-  pub iommu-ownership-2 : (g h p : ℕ) → (g ≡ h → ⊥) → iommu-owned m g p → iommu-owned m h p → ⊥
-  pub iommu-ownership-3 : (g h p : ℕ) → (g ≡ h → ⊥) → iommu-owned m g p → vm-owned m h p → ⊥
-  pub iommu-ownership-4 : (g p : ℕ) → iommu-owned m g p → iommu-shared m p → ⊥
-  pub iommu-ownership-5 : (g p : ℕ) → vm-owned m g p → iommu-shared m p → ⊥
-  pub active-vm-1 : (u g : ℕ) → active-vm m u g → all-vms m g
-  pub tlb-safe-1 : (d : Side) (u g v : ℕ) → g < guests → v < gpages → in-tlb d m u g v → in-s2-map d m g v
-  pub tlb-safe-2 : (d : Side) (u g v : ℕ) → g < guests → v < gpages → in-tlb d m u g v → at-unit 0 (tlb-map d m u g v) ≡ s2-map d m g v
+-- ── `wf`: each function's clauses in their order ──
+pub record SourceWf (s : MachineState) : Type 0 where
+  pub ownership-1 : (g p : ℕ) → s .vm-owned g p ≡ true → s .all-vms g ≡ true
+  pub ownership-2 : (g h p : ℕ) → (g ≡ h → ⊥) → s .vm-owned g p ≡ true → s .vm-owned h p ≡ true → ⊥
+  pub ownership-3 : (g p : ℕ) → s .vm-owned g p ≡ true → s .hypervisor-owned p ≡ true → ⊥
+  pub sharing-1 : (l r p : ℕ) → s .shared-pages l r p ≡ true → l ≡ r → ⊥
+  pub sharing-2 : (l r p : ℕ) → s .shared-pages l r p ≡ true → s .all-vms l ≡ true
+  pub sharing-3 : (l r p : ℕ) → s .shared-pages l r p ≡ true → s .all-vms r ≡ true
+  pub sharing-4 : (l r p : ℕ) → s .shared-pages l r p ≡ true → s .shared-pages r l p ≡ true
+  pub translation-1 : (d : Side) (g v : ℕ) → in-s2-map d s g v → s .all-vms g ≡ true
+  pub translation-2 : (d : Side) (g v : ℕ) → in-s2-map d s g v → entitled d s g (page-in (s .s2-map d g v))
+  pub iommu-ownership-1 : (g p : ℕ) → s .iommu-owned g p ≡ true → s .all-vms g ≡ true
+  pub iommu-ownership-2 : (g h p : ℕ) → (g ≡ h → ⊥) → s .iommu-owned g p ≡ true → s .iommu-owned h p ≡ true → ⊥
+  pub iommu-ownership-3 : (g h p : ℕ) → (g ≡ h → ⊥) → s .iommu-owned g p ≡ true → s .vm-owned h p ≡ true → ⊥
+  pub iommu-ownership-4 : (g p : ℕ) → s .iommu-owned g p ≡ true → s .iommu-shared p ≡ true → ⊥
+  pub iommu-ownership-5 : (g p : ℕ) → s .vm-owned g p ≡ true → s .iommu-shared p ≡ true → ⊥
+  pub active-vm-1 : (u g : ℕ) → cpu-runs s u g → s .all-vms g ≡ true
+  pub tlb-safe-1 : (d : Side) (u g v : ℕ) → in-tlb d s u g v → in-s2-map d s g v
+  pub tlb-safe-2 : (d : Side) (u g v : ℕ) → in-tlb d s u g v → at-unit 0 (s .tlb d u g v) ≡ s .s2-map d g v

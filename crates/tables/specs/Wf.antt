@@ -34,22 +34,22 @@ pub record EntryWf (w : ℕ) : Type 0 where
   pub access : access-in w < accesses
 
 -- an entry of a map: no unit, its guest is present and may reach its page
-pub record MapRowWf (d : Side) (m : Tables) (x : ℕ) : Type 0 where
+pub record MapRowWf (here : List Bool) (may : ℕ → ℕ → Bool) (x : ℕ) : Type 0 where
   pub entry : EntryWf x
   pub no-unit : unit-in x ≡ 0
-  pub present : is-present m (guest-in x) ≡ true
-  pub entitled : may-reach d m (guest-in x) (page-in x) ≡ true
+  pub present : getD here (guest-in x) false ≡ true
+  pub entitled : may (guest-in x) (page-in x) ≡ true
 
 -- a pair: numbers in range, two present guests that differ
-pub record PairWf (m : Tables) (q : ℕ) : Type 0 where
+pub record PairWf (here : List Bool) (q : ℕ) : Type 0 where
   pub live-tag : pair-tag-in q ≡ 1
   pub left : left-in q < guests
   pub right : right-in q < guests
   pub page : page-in q < pages
   pub access : access-in q ≡ 0
   pub differ : left-in q ≡ right-in q → ⊥
-  pub left-present : is-present m (left-in q) ≡ true
-  pub right-present : is-present m (right-in q) ≡ true
+  pub left-present : getD here (left-in q) false ≡ true
+  pub right-present : getD here (right-in q) false ≡ true
 
 -- the map's entry for the guest and guest page of a TLB entry
 abbrev pub home-of : List ℕ → ℕ → ℕ
@@ -68,27 +68,37 @@ pub record Sized (m : Tables) : Type 0 where
   pub present : length (m .present) ≡ guests
   pub running : length (m .running) ≡ units
 
+-- a page, its CPU holder h and its DMA holder d
+pub record PageWf (here : List Bool) (h d : ℕ) (shared : Bool) : Type 0 where
+  -- a guest that holds it is present
+  pub ownership-wf : (g : ℕ) → h ≡ guest g → getD here g false ≡ true
+  pub iommu-ownership-wf : (g : ℕ) → d ≡ guest g → getD here g false ≡ true
+  pub no-hypervisor-dma : d ≡ hypervisor → ⊥
+  -- held by a guest for CPU and by a guest for DMA, it has one guest for both; no guest holds a page of the region
+  pub one-guest : (g k : ℕ) → h ≡ guest g → d ≡ guest k → g ≡ k
+  pub region-not-owned : (g : ℕ) → h ≡ guest g → shared ≡ false
+  pub region-not-iommu-owned : (g : ℕ) → d ≡ guest g → shared ≡ false
+
+-- a CPU that runs h: a guest that is present, or nobody
+pub record CpuWf (here : List Bool) (h : ℕ) : Type 0 where
+  pub active-vm-wf : (g : ℕ) → h ≡ guest g → getD here g false ≡ true
+  pub no-hypervisor-runs : h ≡ hypervisor → ⊥
+
+-- a map and its TLB: at Cpu the source's `translation_wf` and `tlb_safe`, at Iommu its `iommu_translation_wf` and `iommu_tlb_safe`
+pub record WalkWf (here : List Bool) (may : ℕ → ℕ → Bool) (map tlb : List ℕ) : Type 0 where
+  pub translation-wf : Each W (MapRowWf here may) map
+  pub map-keys : Uniq W same-entry map
+  pub tlb-safe : Each W (λ y. home-of map y ≡ at-unit 0 y) tlb
+  pub tlb-range : Each W EntryWf tlb
+  pub tlb-keys : Uniq W same-entry tlb
+
 pub record Wf (m : Tables) : Type 0 where
   pub sizes : Sized m
-  -- a guest that holds a page is present
-  pub ownership-wf : (p g : ℕ) → holder-of m p ≡ guest g → is-present m g ≡ true
-  pub iommu-ownership-wf : (p g : ℕ) → dma-of m p ≡ guest g → is-present m g ≡ true
-  pub no-hypervisor-dma : (p : ℕ) → dma-of m p ≡ hypervisor → ⊥
-  -- a page that two guests hold, one for CPU and one for DMA, has one guest for both; no guest holds a page of the region
-  pub one-guest : (p g h : ℕ) → holder-of m p ≡ guest g → dma-of m p ≡ guest h → g ≡ h
-  pub region-not-owned : (p g : ℕ) → holder-of m p ≡ guest g → in-region m p ≡ false
-  pub region-not-iommu-owned : (p g : ℕ) → dma-of m p ≡ guest g → in-region m p ≡ false
-  -- a guest that runs is present
-  pub active-vm-wf : (u g : ℕ) → running-on m u ≡ guest g → is-present m g ≡ true
-  pub no-hypervisor-runs : (u : ℕ) → running-on m u ≡ hypervisor → ⊥
-  pub sharing-wf : Each W (PairWf m) (m .pairs)
+  pub pages-wf : (p : ℕ) → PageWf (m .present) (holder-of m p) (dma-of m p) (in-region m p)
+  pub cpus-wf : (u : ℕ) → CpuWf (m .present) (running-on m u)
+  pub sharing-wf : Each W (PairWf (m .present)) (m .pairs)
   pub pair-keys : Uniq W same-pair (m .pairs)
-  -- at Cpu the source's `translation_wf` and `tlb_safe`, at Iommu its `iommu_translation_wf` and `iommu_tlb_safe`
-  pub translation-wf : (d : Side) → Each W (MapRowWf d m) (map-of d m)
-  pub map-keys : (d : Side) → Uniq W same-entry (map-of d m)
-  pub tlb-safe : (d : Side) → Each W (λ y. home-of (map-of d m) y ≡ at-unit 0 y) (tlb-of d m)
-  pub tlb-range : (d : Side) → Each W EntryWf (tlb-of d m)
-  pub tlb-keys : (d : Side) → Uniq W same-entry (tlb-of d m)
+  pub walks-wf : (d : Side) → WalkWf (m .present) (may-reach d m) (map-of d m) (tlb-of d m)
 
 -- ══ the test ══
 -- nobody, or a guest that is present
