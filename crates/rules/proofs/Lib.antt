@@ -1,6 +1,13 @@
 pub mod Lowest
 pub mod Places
 pub mod Pairs
+pub mod Ranges
+pub mod PartLaws
 pub mod Walks
 pub mod WfFrames
 pub mod WfKept
+pub mod Lists
+pub mod Forced
+pub mod Accesses
+pub mod Quiescence
+pub mod Guards

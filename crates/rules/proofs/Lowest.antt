@@ -20,7 +20,7 @@ use Rattle.rules.specs.Actions.Op.{Read, Write, HyperCall, AddVm, Remove
 use Rattle.rules.specs.Calls.{op-of, _then_, action-rules, act-rules, Machine, run-rules, refused, listed}
 
 -- ── refusals stand in rising order: the numbers alone say so ──
-rising-refusals : (m : Tables) (o : Op) → rising 4 (refusals m o) ≡ true
+pub rising-refusals : (m : Tables) (o : Op) → rising 4 (refusals m o) ≡ true
 unfolding rising _and_
 rising-refusals m (Read d g u a) = refl
 rising-refusals m (Write d g u a w) = refl
@@ -40,11 +40,11 @@ rising-refusals m (Drop d g u v) = refl
 rising-refusals m (IommuAssignPage g p) = refl
 rising-refusals m (IommuReclaimPage g p) = refl
 
-rising-action : (m : Tables) (a : Action) → rising 3 (action-rules m a) ≡ true
+pub rising-action : (m : Tables) (a : Action) → rising 3 (action-rules m a) ≡ true
 unfolding rising _then_ _and_
 rising-action m a = rising-refusals m (op-of a)
 
-rising-act : (m : Tables) (frame ws : List ℕ) → rising 1 (act-rules m frame ws) ≡ true
+pub rising-act : (m : Tables) (frame ws : List ℕ) → rising 1 (act-rules m frame ws) ≡ true
 unfolding rising _then_ _and_
 rising-act m frame ws = rising-action m (decode frame)
 
@@ -109,7 +109,7 @@ abbrev pub all-pass : Rules → Bool
 all-pass accept = true
 all-pass (bad ⇒ n ∣ rules) = isnt bad and all-pass rules
 
-passes : (n : ℕ) (rules : Rules) → rising n rules ≡ true → accepted rules ≡ true ↔ all-pass rules ≡ true
+pub passes : (n : ℕ) (rules : Rules) → rising n rules ≡ true → accepted rules ≡ true ↔ all-pass rules ≡ true
 unfolding least rising
 passes n accept r = (λ e. refl, λ e. refl)
 passes n (true ⇒ k ∣ rules) r = (

@@ -29,13 +29,11 @@ use Rattle.tables.proofs.WfAgrees.{wf-sound, wf-complete}
 use Rattle.rules.specs.Actions.{Op, refusals, effect, holds, leans, named, another, accepted, next}
 use Rattle.rules.specs.Actions.Op.{Read, Write, HyperCall, AddVm, RemoveVm, AssignPage, ReclaimPage, SharePage, UnsharePage, Map, Unmap, ContextSwitch, Idle, Fill, Drop, IommuAssignPage, IommuReclaimPage}
 use Rattle.rules.proofs.Lowest.{Clear, accepted-clear}
-use Rattle.rules.proofs.Places.{not-named, not-another}
+use Rattle.rules.proofs.Places.{named-agrees, another-agrees}
+use Rattle.rules.proofs.Ranges.{below}
 use Rattle.rules.proofs.Pairs.{Paired, pair-wf, pair-test}
 use Rattle.rules.proofs.Walks.{some-unit, kept, walk-map, walk-unmap, walk-fill, walk-drop}
 use Rattle.rules.proofs.WfFrames.{keeps-walk, keeps-held, keeps-pairs, keeps-present, keeps-running}
-
-below : (n count : ℕ) → off n count ≡ false → n < count
-below n count e = leb-false count n e
 
 -- a guest page of a map
 keyed : (g v : ℕ) → off g guests ≡ false → off v gpages ≡ false → Keyed 0 g v
@@ -67,7 +65,7 @@ module _ {m : Tables} (h : Wf m) where
         ownership-wf = runs (m .present) g (isnt-false _ (c 6)) .active-vm-wf;
         iommu-ownership-wf = h .pages-wf p .iommu-ownership-wf;
         no-hypervisor-dma = h .pages-wf p .no-hypervisor-dma;
-        one-guest = λ i k s t. let z : k ≡ g = not-another g (dma-of m p) k (or-r _ _ (c 12)) t in omega arith;
+        one-guest = λ i k s t. let z : k ≡ g = another-agrees g (dma-of m p) .0 (or-r _ _ (c 12)) k t in omega arith;
         region-not-owned = λ i s. or-l _ _ (c 12);
         region-not-iommu-owned = λ i s. or-l _ _ (c 12);
       })
@@ -91,12 +89,12 @@ module _ {m : Tables} (h : Wf m) where
         ownership-wf = h .pages-wf p .ownership-wf;
         iommu-ownership-wf = runs (m .present) g (isnt-false _ (c 6)) .active-vm-wf;
         no-hypervisor-dma = λ s. omega arith;
-        one-guest = λ i k s t. let z : i ≡ g = not-another g (holder-of m p) i (or-r _ _ (or-r _ _ (c 12))) s in omega arith;
+        one-guest = λ i k s t. let z : i ≡ g = another-agrees g (holder-of m p) .0 (or-r _ _ (or-r _ _ (c 12))) i s in omega arith;
         region-not-owned = λ i s. or-l _ _ (c 12);
         region-not-iommu-owned = λ i s. or-l _ _ (c 12);
       })
       (each-all W (m .«io_map») (λ r l e s.
-      let z : guest-in r ≡ g = not-another g (dma-of m p) (guest-in r) (or-l _ _ (or-r _ _ (c 12))) s in omega arith))
+      let z : guest-in r ≡ g = another-agrees g (dma-of m p) .0 (or-l _ _ (or-r _ _ (c 12))) (guest-in r) s in omega arith))
 
   keeps-IommuReclaimPage : (g p : ℕ) → Clear (refusals m (IommuReclaimPage g p)) → Wf (effect m (IommuReclaimPage g p))
   keeps-IommuReclaimPage g p c = keeps-held h Iommu p nobody
@@ -168,9 +166,9 @@ module _ {m : Tables} (h : Wf m) where
   keeps-RemoveVm g c =
       let t₁ = or-r _ _ (c 13) in let t₂ = or-r _ _ t₁ in let t₃ = or-r _ _ t₂ in let t₇ = or-r _ _ (or-r _ _ (or-r _ _ t₃)) in
       keeps-present h g false
-      (λ p e. absurd (not-named g (m .holder) (or-l _ _ (c 13)) p e))
-      (λ p e. absurd (not-named g (m .dma) (or-l _ _ t₁) p e))
-      (λ u e. absurd (not-named g (m .running) (or-r _ _ t₇) u e))
+      (λ p e. absurd (named-agrees g (m .holder) .0 (or-l _ _ (c 13)) p e))
+      (λ p e. absurd (named-agrees g (m .dma) .0 (or-l _ _ t₁) p e))
+      (λ u e. absurd (named-agrees g (m .running) .0 (or-r _ _ t₇) u e))
       (each-map W (λ q _ n e. clash e n) (none-each W (ends-at g) (m .pairs) (or-l _ _ t₇)))
       (elim [
         Cpu ↦ each-map W (λ x _ n e. clash e n) (none-each W (of-guest g) (m .map) (or-l _ _ t₂))

@@ -1,3 +1,4 @@
 pub mod Parts
 pub mod Actions
 pub mod Calls
+pub mod Source

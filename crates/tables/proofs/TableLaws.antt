@@ -343,6 +343,16 @@ module _ {A : Type 0} (K : Shape A) where
           ∙ p (and-l _ _ e)))
           (λ e. rw (first-skip (hit K (s r)) x t e) (has-skip (s r) x _ e ∙ only r q))
 
+      -- where no key stands twice, what any test finds is what is found under its own key
+      pub find-own : (j : A → Bool) {t : List A} → Uniq K s t → has K j t ≡ true → find K (s (find K j t)) t ≡ find K j t
+      find-own j Uniq.none h = clash h (has-nil j)
+      find-own j (Uniq.more {x} {t} p q) h = split (hit K j x)
+          (λ e. rw (find-hit j x t e) (find-hit (s x) x t (and-i (and-l _ _ e) (S .same-refl x))))
+          (λ e.
+          let there : has K j t ≡ true = sym (has-skip j x t e) ∙ h in
+          rw (find-skip j x t e) (find-skip (s (find K j t)) x t (not-true _ (λ o. clash
+          (has-also j (s x) t there (S .same-sym _ x (and-r _ _ o))) (p (and-l _ _ o)))) ∙ find-own j q there))
+
       pub uniq-place : (r : A) {t : List A} → has K (s r) t ≡ false → Uniq K s t → Uniq K s (place K r t)
       unfolding place
       uniq-place r {t} n u = uniq-set r _ (none-set (s r) (K .zero) (free-skip (s r) dead) t _ n) u

@@ -1,6 +1,6 @@
 -- The source's views of the tables: what a key finds, and where a guest's entries may lead.
-use mathlib.Core.Path.{_≡_, refl, sym, _∙_, ap}
-use mathlib.Core.Bool.{true, false}
+use mathlib.Core.Path.{_≡_, refl, sym, _∙_, ap, subst}
+use mathlib.Core.Bool.{Bool, true, false}
 use mathlib.Core.List.{List}
 use mathlib.Core.Logic.{_↔_, _⊎_, inl, inr, ⊎-elim}
 use Prim.Native.Nat.{ℕ, _<_}
@@ -9,17 +9,18 @@ use borrow.Author.Tests.{ltb-true, lt-ltb}
 use Rattle.numbers.specs.Sizes.{guests, units, gpages}
 use Rattle.numbers.specs.Tests.{_and_, _or_}
 use Rattle.numbers.specs.Entries.{key-of, key-in, guest-in, gpage-in, unit-in, left-in, right-in}
-use Rattle.numbers.proofs.Bools.{split, clash, cond-true, cond-false, and-l, and-r, and-i, or-e, or-il, or-ir, isnt-no, bool-ext}
-use Rattle.numbers.proofs.EntryLaws.{counts-fit, guest-under, gpage-under, unit-under}
-use Rattle.tables.specs.Table.{live, find, has}
-use Rattle.tables.specs.Wants.{W, has-key, joins, shared-by, shared-with}
+use Rattle.numbers.proofs.Bools.{split, clash, cond-true, cond-false, and-l, and-r, and-i, or-e, or-il, or-ir, isnt-no, not-true, bool-ext}
+use Rattle.numbers.proofs.EntryLaws.{counts-fit, guest-under, gpage-under, unit-under, key-own}
+use Rattle.tables.specs.Table.{live, find, has, Each, Uniq}
+use Rattle.tables.specs.Wants.{W, has-key, joins, shared-by, shared-with, same-entry}
 use Rattle.tables.specs.State.{reach, may-reach}
+use Rattle.tables.specs.Wf.{EntryWf}
 use Rattle.tables.specs.Views.{entry-at, view, entitled}
 use Rattle.tables.specs.declared.state.Tables.{Tables}
 use Rattle.tables.specs.declared.state.Side.{Side}
 use Rattle.tables.specs.declared.state.Side.the-variants.{Cpu, Iommu}
-use Rattle.tables.proofs.TableLaws.{find-passes, has-also, has-ext, each-all, live-find}
-use Rattle.tables.proofs.WantLaws.{zero-free, has-key-agrees, joins-agrees, ends-at-agrees}
+use Rattle.tables.proofs.TableLaws.{find-passes, has-also, has-ext, each-all, each-find, none-each, live-find, find-own}
+use Rattle.tables.proofs.WantLaws.{zero-free, has-key-agrees, joins-agrees, ends-at-agrees, same-entry-is}
 
 -- ── keys ──
 pub record Keyed (u g v : ℕ) : Type 0 where
@@ -62,6 +63,22 @@ module _ (t : List ℕ) (u g v : ℕ) where
 
   pub there-entry : Keyed u g v → has W (has-key (key-of u g v)) t ≡ true → live W (entry-at t u g v) ≡ true
   there-entry k h = ap (live W) (entry-in k) ∙ live-find W zero-free (has-key (key-of u g v)) t ∙ h
+
+-- ── every row is the entry of its own key, where no key stands twice ──
+module _ (j : ℕ → Bool) (t : List ℕ) (ranges : Each W EntryWf t) (keys : Uniq W same-entry t) where
+  row-at : has W j t ≡ true → let x = find W j t in entry-at t (unit-in x) (guest-in x) (gpage-in x) ≡ x
+  row-at h =
+      let x = find W j t in let r = each-find W j ranges h in
+      let k : Keyed (unit-in x) (guest-in x) (gpage-in x) = record { unit = r .unit; guest = r .guest; gpage = r .gpage } in
+      entry-in t _ _ _ k ∙ ap (λ (n : ℕ). find W (has-key n) t) (sym (key-own x (r .live-tag))) ∙ find-own W zero-free same-entry-is j keys h
+
+  -- no row passes a test exactly where no key's entry does
+  pub none-passes : has W j t ≡ false ↔ ((u g v : ℕ) → live W (entry-at t u g v) ≡ true → j (entry-at t u g v) ≡ false)
+  none-passes = (
+    λ n u g v l. rw (entry-in t u g v (entry-keyed t u g v l)) (each-find W _ (none-each W j t n) (entry-there t u g v l)),
+    λ f. not-true _ (λ h. clash (and-r _ _ (find-passes W j t h)) (subst (λ (x : ℕ). j x ≡ false) (row-at h)
+        (f _ _ _ (ap (live W) (row-at h) ∙ and-l _ _ (find-passes W j t h))))),
+  )
 
 -- ── pairs ──
 joins-turned : (l r q : ℕ) → joins l r q ≡ true → joins r l q ≡ true

@@ -1,0 +1,126 @@
+-- What only the definitions force, each by itself: a raster is kept, words stay, no second pair excuses, every unit is dropped, and
+-- where entries stand.
+use mathlib.Core.Path.{_≡_, refl, sym, _∙_, ap}
+use mathlib.Core.Bool.{Bool, true, false}
+use mathlib.Core.List.{List, [], _∷_}
+use Prim.Native.Nat.{ℕ, zero, suc, _<_, _≤_}
+use native.Mathlib.Omega.{arith}
+use lib.Dec.{eqb, ltb}
+use lib.ListN.{getD, set, length}
+use borrow.Author.Tests.{eqb-true, ltb-true, ltb-false}
+use Rattle.numbers.specs.Sizes.{guests, units, pages, gpages}
+use Rattle.numbers.specs.Tests.{_and_, _or_, isnt}
+use Rattle.numbers.specs.Rules.{least}
+use Rattle.numbers.specs.Search.{first}
+use Rattle.numbers.specs.Entries.{key-of, entry}
+use Rattle.numbers.specs.Frames.{off}
+use Rattle.numbers.proofs.Bools.{split, clash, cond-true, and-l, and-i, and-no-l, and-no-r, or-no, or-il, or-ir, isnt-true, isnt-no, isnt-i, not-true}
+use Rattle.numbers.proofs.SearchLaws.{first-passes, first-lowest}
+use Rattle.tables.specs.Table.{has, hit, live, put, wipe, cleared, place}
+use Rattle.tables.specs.Wants.{W, has-key, everywhere, shared-by, invalidated}
+use Rattle.tables.specs.State.{guest, is-present, in-region, holder-of, dma-of, map-of, tlb-of}
+use Rattle.tables.specs.Wf.{Wf}
+use Rattle.tables.specs.declared.state.Tables.{Tables}
+use Rattle.tables.specs.declared.state.Side.{Side}
+use Rattle.tables.specs.declared.state.Side.the-variants.{Cpu, Iommu}
+use Rattle.tables.proofs.TableLaws.{each-none, each-map, each-all, each-wipe, put-over, put-new, wipe-at, length-wipe}
+use Rattle.tables.proofs.WantLaws.{zero-free, of-guest-agrees, of-gpage-agrees}
+use Rattle.tables.proofs.ViewLaws.{Keyed, guest-is, gpage-is}
+use Rattle.rules.specs.Actions.{Op, absent, holds, dma-holds, another, leans, refusals, effect, next, does, accepted, Outcome, step}
+use Rattle.rules.specs.Actions.Op.{Read, Write, HyperCall, AddVm, RemoveVm, AssignPage, ReclaimPage, SharePage, UnsharePage, Map, Unmap, ContextSwitch, Idle, Fill, Drop, IommuAssignPage, IommuReclaimPage}
+use Rattle.rules.proofs.PartLaws.{map-with, tlb-with}
+use Rattle.rules.proofs.Lowest.{when}
+use Rattle.rules.proofs.Ranges.{in-range, present-below, dma-below}
+use Rattle.rules.proofs.Places.{another-agrees}
+
+-- ── memory ──
+-- the CPU holder's raster is kept when its page is given to its devices
+pub raster-kept : (m : Tables) (g p : ℕ) (ws : List ℕ) → holds m g p ≡ true → step m (IommuAssignPage g p) ws .memory ≡ ws
+unfolding does
+raster-kept m g p ws h = split (accepted (refusals m (IommuAssignPage g p))) (λ e. rw (e, or-ir (dma-holds m g p) h)) (λ e. rw e)
+
+-- a reclaimed page's words stay
+pub words-stay : (m : Tables) (g p : ℕ) (ws : List ℕ) → step m (ReclaimPage g p) ws .memory ≡ ws
+unfolding does
+words-stay m g p ws = split (accepted (refusals m (ReclaimPage g p))) (λ e. rw e) (λ e. rw e)
+
+-- ── a page given again to the devices of the guest that has it: accepted, and nothing changes ──
+set-own : {A : Type 0} (l : List A) (i : ℕ) (d x : A) → getD l i d ≡ x → set l i x ≡ l
+set-own [] i d x e = refl
+set-own (y ∷ l) zero d x e = ap (λ z. z ∷ l) (sym e)
+set-own (y ∷ l) (suc i) d x e = ap (λ z. y ∷ z) (set-own l i d x e)
+
+pub repeated-assign : (m : Tables) → Wf m → (g p : ℕ) (ws : List ℕ) → dma-holds m g p ≡ true →
+    step m (IommuAssignPage g p) ws ≡ record { number = 0; word = 0; tables = m; memory = ws }
+unfolding does next least
+repeated-assign m h g p ws e =
+    let held : dma-of m p ≡ guest g = eqb-true _ _ e in
+    let here : is-present m g ≡ true = h .pages-wf p .iommu-ownership-wf g held in
+    rw (
+      or-no (in-range g guests (present-below h g here)) (in-range p pages (dma-below h p (omega arith))),
+      isnt-no here,
+      or-no (h .pages-wf p .region-not-iommu-owned g held) (or-no
+      (another-agrees g (dma-of m p) .1 (λ k s. omega arith))
+      (another-agrees g (holder-of m p) .1 (λ k s. h .pages-wf p .one-guest k g s held))),
+      set-own (m .dma) p 0 (guest g) held,
+      or-il (holds m g p) e,
+    )
+
+-- ── pairs ──
+-- an end that maps the page without holding it: no other pair of that guest on that page excuses it
+pub no-second-pair-excuses : (m : Tables) (l r p : ℕ) (ws : List ℕ) →
+    (off l guests or off r guests or off p pages) ≡ false → eqb l r ≡ false → (absent m l or absent m r) ≡ false →
+    has W (shared-by l r p) (m .pairs) ≡ true → (leans m l p or leans m r p) ≡ true → step m (UnsharePage l r p) ws .number ≡ 13
+unfolding least
+no-second-pair-excuses m l r p ws e₄ e₅ e₆ pair leans = rw (e₄, e₅, e₆, and-i pair leans)
+
+-- a pair that stands, in either order, is neither refused for want of room nor changed
+pub standing-pair-kept : (m : Tables) (l r p : ℕ) → has W (shared-by l r p) (m .pairs) ≡ true →
+    (when (refusals m (SharePage l r p)) 15 ≡ false) × (effect m (SharePage l r p) ≡ m)
+standing-pair-kept m l r p e = (and-no-l _ (isnt-no e), rw e)
+
+-- ── map and unmap, on either side ──
+module _ (d : Side) (m : Tables) (g v : ℕ) where
+  -- every unit loses the entry
+  gone : (u : ℕ) (tlb : List ℕ) → Keyed u g v → has W (has-key (key-of u g v)) (invalidated g v tlb) ≡ false
+  gone u tlb k = each-none W _ (each-map W (λ y l e. not-true _ (λ t. clash
+      (and-i (of-guest-agrees g y .1 (sym (guest-is u g v k y t))) (of-gpage-agrees v y .1 (sym (gpage-is u g v k y t)))) (e .1)))
+      (each-wipe W zero-free (everywhere g v) (each-all W {P = λ x. Unit {0}} tlb (λ x l. tt))))
+
+  pub map-drops-all : (p x u : ℕ) → Keyed u g v → has W (has-key (key-of u g v)) (tlb-of d (effect m (Map d g v p x))) ≡ false
+  map-drops-all p x u k = rw (tlb-with m (put W (has-key (key-of 0 g v)) (entry 0 g v p x) (map-of d m)) (invalidated g v (tlb-of d m)) d) (gone u (tlb-of d m) k)
+
+  pub unmap-drops-all : (u : ℕ) → Keyed u g v → has W (has-key (key-of u g v)) (tlb-of d (effect m (Unmap d g v))) ≡ false
+  unmap-drops-all u k = rw (tlb-with m (wipe W (has-key (key-of 0 g v)) (map-of d m)) (invalidated g v (tlb-of d m)) d) (gone u (tlb-of d m) k)
+
+  -- an overwritten entry stays where it was; a new one takes the lowest free place
+  pub overwritten-stays : (p x : ℕ) → has W (has-key (key-of 0 g v)) (map-of d m) ≡ true →
+      map-of d (effect m (Map d g v p x)) ≡ set (map-of d m) (first (hit W (has-key (key-of 0 g v))) (map-of d m)) (entry 0 g v p x)
+  overwritten-stays p x e = map-with m _ (invalidated g v (tlb-of d m)) d ∙ put-over W zero-free _ _ (map-of d m) e
+
+  pub new-takes-lowest : (p x : ℕ) → has W (has-key (key-of 0 g v)) (map-of d m) ≡ false →
+      map-of d (effect m (Map d g v p x)) ≡ set (map-of d m) (first (W .free) (map-of d m)) (entry 0 g v p x)
+  unfolding place
+  new-takes-lowest p x e = map-with m _ (invalidated g v (tlb-of d m)) d ∙ put-new W zero-free _ _ (map-of d m) e
+
+  -- an unmapped entry's place is zero, any other as it was
+  pub unmapped-zero : (i : ℕ) → getD (map-of d (effect m (Unmap d g v))) i 0 ≡ cleared W (has-key (key-of 0 g v)) (getD (map-of d m) i 0)
+  unmapped-zero i = rw (map-with m (wipe W (has-key (key-of 0 g v)) (map-of d m)) (invalidated g v (tlb-of d m)) d) (wipe-at W zero-free _ (map-of d m) i)
+
+-- ── a freed place, in a map, a TLB or among the pairs: the next to be taken, if no place before it is free ──
+module _ (k : ℕ → Bool) (t : List ℕ) (i : ℕ) (inside : i < length t) (mine : hit W k (getD t i 0) ≡ true) where
+  pub freed-zero : getD (wipe W k t) i 0 ≡ 0
+  freed-zero = wipe-at W zero-free k t i ∙ cond-true mine 0 (getD t i 0)
+
+  pub freed-next : ((j : ℕ) → j < i → W .free (getD (wipe W k t) j 0) ≡ false) → (r : ℕ) → place W r (wipe W k t) ≡ set (wipe W k t) i r
+  unfolding place
+  freed-next others r =
+      let long : length (wipe W k t) ≡ length t = length-wipe W k t in
+      ap (λ (n : ℕ). set (wipe W k t) n r) (split (ltb (first (W .free) (wipe W k t)) i)
+      (λ e. clash
+      (first-passes (W .free) (wipe W k t) 0 (let l : first (W .free) (wipe W k t) < i = ltb-true _ _ e in omega arith))
+      (others _ (ltb-true _ _ e)))
+      (λ e.
+      let l : i ≤ first (W .free) (wipe W k t) = ltb-false _ _ e in
+      let f : first (W .free) (wipe W k t) ≤ i = first-lowest (W .free) (wipe W k t) 0 i (omega arith) (rw freed-zero zero-free) in
+      omega arith))
