@@ -7,6 +7,7 @@ use Prim.Native.Nat.{ℕ, zero, suc, _<_, _≤_}
 use native.Mathlib.Omega.{arith}
 use lib.Dec.{eqb, ltb}
 use lib.ListN.{getD, set, length}
+use lib.Seq.{set-getD}
 use borrow.Author.Tests.{eqb-true, ltb-true, ltb-false}
 use Rattle.numbers.specs.Sizes.{guests, units, pages, gpages}
 use Rattle.numbers.specs.Tests.{_and_, _or_, isnt}
@@ -45,11 +46,6 @@ unfolding does
 words-stay m g p ws = split (accepted (refusals m (ReclaimPage g p))) (λ e. rw e) (λ e. rw e)
 
 -- ── a page given again to the devices of the guest that has it: accepted, and nothing changes ──
-set-own : {A : Type 0} (l : List A) (i : ℕ) (d x : A) → getD l i d ≡ x → set l i x ≡ l
-set-own [] i d x e = refl
-set-own (y ∷ l) zero d x e = ap (λ z. z ∷ l) (sym e)
-set-own (y ∷ l) (suc i) d x e = ap (λ z. y ∷ z) (set-own l i d x e)
-
 pub repeated-assign : (m : Tables) → Wf m → (g p : ℕ) (ws : List ℕ) → dma-holds m g p ≡ true →
     step m (IommuAssignPage g p) ws ≡ record { number = 0; word = 0; tables = m; memory = ws }
 unfolding does next least
@@ -62,7 +58,7 @@ repeated-assign m h g p ws e =
       or-no (h .pages-wf p .region-not-iommu-owned g held) (or-no
       (another-agrees g (dma-of m p) .1 (λ k s. omega arith))
       (another-agrees g (holder-of m p) .1 (λ k s. h .pages-wf p .one-guest k g s held))),
-      set-own (m .dma) p 0 (guest g) held,
+      ap (set (m .dma) p) (sym held) ∙ set-getD (m .dma) p 0,
       or-il (holds m g p) e,
     )
 

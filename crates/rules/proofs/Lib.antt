@@ -11,3 +11,5 @@ pub mod Forced
 pub mod Accesses
 pub mod Quiescence
 pub mod Guards
+pub mod Updates
+pub mod Effects

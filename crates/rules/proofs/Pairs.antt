@@ -8,8 +8,9 @@ use lib.ListN.{getD}
 use Rattle.numbers.specs.Sizes.{guests, pages, access-span}
 use Rattle.numbers.specs.Entries.{page-in, left-in, right-in, pair}
 use Rattle.numbers.proofs.EntryLaws.{counts-fit, access-pair, page-pair, left-pair, right-pair, tag-pair}
-use Rattle.tables.specs.Wants.{shared-by, same-pair}
+use Rattle.tables.specs.Wants.{to-page, joins, shared-by, same-pair}
 use Rattle.tables.specs.Wf.{PairWf}
+use Rattle.rules.specs.Source.{edge}
 
 pub record Paired (l r p : ℕ) : Type 0 where
   pub left : l < guests
@@ -45,3 +46,8 @@ module _ (l r p : ℕ) (k : Paired l r p) where
   -- what stands under its key is what its three numbers look for
   pub pair-test : (x : ℕ) → same-pair (pair l r p 0) x ≡ shared-by l r p x
   pair-test x = rw (made-left, made-right, made-page)
+
+  -- and others find it by its ends, in either order
+  pub pair-edge : (x y q : ℕ) → shared-by x y q (pair l r p 0) ≡ edge l r p x y q
+  unfolding to-page joins
+  pair-edge x y q = rw (made-left, made-right, made-page)

@@ -26,18 +26,18 @@ use Rattle.tables.specs.declared.state.Side.the-variants.{Cpu, Iommu}
 use Rattle.rules.specs.Actions.{Op, another, clear-page}
 
 -- ══ sets and maps ══
+-- a map with another value at a key; a set is the map of its test
+abbrev pub update : {A : Type 0} → ℕ → A → (ℕ → A) → ℕ → A
+update k x f j = cond (eqb k j) x (f j)
+
 abbrev pub insert : ℕ → (ℕ → Bool) → ℕ → Bool
-insert x s y = eqb x y or s y
+insert x s = update x true s
 
 abbrev pub remove : ℕ → (ℕ → Bool) → ℕ → Bool
-remove x s y = isnt (eqb x y) and s y
+remove x s = update x false s
 
 abbrev pub empty-set : ℕ → Bool
 empty-set y = false
-
--- a map with another value at a key
-abbrev pub update : {A : Type 0} → ℕ → A → (ℕ → A) → ℕ → A
-update k x f j = cond (eqb k j) x (f j)
 
 -- the same at a guest and a guest page
 abbrev pub update-key : ℕ → ℕ → ℕ → (ℕ → ℕ → ℕ) → ℕ → ℕ → ℕ
@@ -47,15 +47,13 @@ update-key g v x f h w = cond (eqb g h and eqb v w) x (f h w)
 abbrev pub remove-targets : ℕ → ℕ → (ℕ → ℕ → ℕ → ℕ) → ℕ → ℕ → ℕ → ℕ
 remove-targets g v f u h w = cond (eqb g h and eqb v w) 0 (f u h w)
 
--- an edge and its reverse
+-- an edge or its reverse
 abbrev pub edge : ℕ → ℕ → ℕ → ℕ → ℕ → ℕ → Bool
-edge l r p x y q = eqb p q and (eqb l x and eqb r y or eqb l y and eqb r x)
+edge l r p x y q = eqb q p and (eqb x l and eqb y r or eqb x r and eqb y l)
 
-abbrev pub insert-edge : ℕ → ℕ → ℕ → (ℕ → ℕ → ℕ → Bool) → ℕ → ℕ → ℕ → Bool
-insert-edge l r p s x y q = edge l r p x y q or s x y q
-
-abbrev pub remove-edge : ℕ → ℕ → ℕ → (ℕ → ℕ → ℕ → Bool) → ℕ → ℕ → ℕ → Bool
-remove-edge l r p s x y q = isnt (edge l r p x y q) and s x y q
+-- both of them in the set, or neither
+abbrev pub with-edge : ℕ → ℕ → ℕ → Bool → (ℕ → ℕ → ℕ → Bool) → ℕ → ℕ → ℕ → Bool
+with-edge l r p b s x y q = cond (edge l r p x y q) b (s x y q)
 
 abbrev pub other : Side → Side
 other Cpu = Iommu
@@ -359,11 +357,11 @@ hv-reclaim-page-step s₁ s₂ vm page =
 
 abbrev pub hv-share-page-step : MachineState → MachineState → ℕ → ℕ → ℕ → Type 0
 hv-share-page-step s₁ s₂ left right page =
-    hv-share-page-guards s₁ left right page × sharing-effects s₂ s₁ (insert-edge left right page (s₁ .shared-pages))
+    hv-share-page-guards s₁ left right page × sharing-effects s₂ s₁ (with-edge left right page true (s₁ .shared-pages))
 
 abbrev pub hv-unshare-page-step : MachineState → MachineState → ℕ → ℕ → ℕ → Type 0
 hv-unshare-page-step s₁ s₂ left right page =
-    hv-unshare-page-guards s₁ left right page × sharing-effects s₂ s₁ (remove-edge left right page (s₁ .shared-pages))
+    hv-unshare-page-guards s₁ left right page × sharing-effects s₂ s₁ (with-edge left right page false (s₁ .shared-pages))
 
 abbrev pub hv-context-switch-step : MachineState → MachineState → ℕ → ℕ → Type 0
 hv-context-switch-step s₁ s₂ cpu vm = hv-context-switch-guards s₁ vm × hv-context-switch-effects s₂ s₁ cpu vm

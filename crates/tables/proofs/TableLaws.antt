@@ -276,10 +276,15 @@ module _ {A : Type 0} (K : Shape A) where
         (λ e. rw e (Each.more (λ l. clash l (isnt-no dead)) (each-wipe k q)))
         (λ e. rw e (Each.more (λ l. (p l, no-hit k l e)) (each-wipe k q)))
 
-    -- what passed is gone, and nothing else
-    pub has-wipe-same : (k : A → Bool) (t : List A) → has K k (wipe K k t) ≡ false
-    has-wipe-same k t = each-none k (each-map (λ x l p. p .1) (each-wipe {P = λ x. Unit {0}} k (each-all t (λ x l. tt))))
+    -- what passed is gone, and with it whatever only finds what passed
+    pub has-wipe-under : (j k : A → Bool) (t : List A) → ((x : A) → j x ≡ true → k x ≡ true) → has K j (wipe K k t) ≡ false
+    has-wipe-under j k t under = each-none j (each-map (λ x l p. not-true _ (λ e. clash (under x e) (p .1)))
+        (each-wipe {P = λ x. Unit {0}} k (each-all t (λ x l. tt))))
 
+    pub has-wipe-same : (k : A → Bool) (t : List A) → has K k (wipe K k t) ≡ false
+    has-wipe-same k t = has-wipe-under k k t (λ x e. e)
+
+    -- and nothing else
     pub find-wipe-other : (j k : A → Bool) (t : List A) → Apart j k → find K j (wipe K k t) ≡ find K j t
     unfolding wipe
     find-wipe-other j k [] apart = refl

@@ -39,23 +39,30 @@ module _ (u g v : ℕ) (k : Keyed u g v) (w : ℕ) (e : has-key (key-of u g v) w
   pub unit-is : unit-in w ≡ u
   unit-is = unit-under u g v w (counts-fit .guest g (k .guest)) (counts-fit .gpage v (k .gpage)) (sym (has-key-agrees _ w .0 e)) (counts-fit .unit u (k .unit))
 
-module _ (t : List ℕ) (u g v : ℕ) where
+module _ (u g v : ℕ) where
   in-range : (ltb u units and ltb g guests and ltb v gpages) ≡ true ↔ Keyed u g v
   in-range = (λ e. search (and-l, and-r, ltb-true) depth 9, λ k. search (and-i, lt-ltb) depth 9)
 
+  -- a key is in range or it is not
+  pub keyed-or : {P : Type 0} → (Keyed u g v → P) → ((Keyed u g v → ⊥) → P) → P
+  keyed-or inside outside = split (ltb u units and ltb g guests and ltb v gpages)
+      (λ e. inside (in-range .0 e))
+      (λ e. outside (λ k. clash (in-range .1 k) e))
+
+module _ (t : List ℕ) (u g v : ℕ) where
   pub entry-in : Keyed u g v → entry-at t u g v ≡ find W (has-key (key-of u g v)) t
   unfolding entry-at
-  entry-in k = rw (in-range .1 k)
+  entry-in k = rw (in-range u g v .1 k)
 
   pub entry-out : (Keyed u g v → ⊥) → entry-at t u g v ≡ 0
   unfolding entry-at
-  entry-out n = split (ltb u units and ltb g guests and ltb v gpages) (λ e. absurd (n (in-range .0 e))) (λ e. rw e)
+  entry-out n = split (ltb u units and ltb g guests and ltb v gpages) (λ e. absurd (n (in-range u g v .0 e))) (λ e. rw e)
 
   -- an entry that is there stands under a key in range
   pub entry-keyed : live W (entry-at t u g v) ≡ true → Keyed u g v
   unfolding entry-at
   entry-keyed h = split (ltb u units and ltb g guests and ltb v gpages)
-      (λ e. in-range .0 e)
+      (λ e. in-range u g v .0 e)
       (λ e. clash (ap (live W) (sym (cond-false e (find W (has-key (key-of u g v)) t) 0)) ∙ h) (isnt-no zero-free))
 
   pub entry-there : live W (entry-at t u g v) ≡ true → has W (has-key (key-of u g v)) t ≡ true
