@@ -34,6 +34,7 @@ use Rattle.rules.proofs.Ranges.{below, present-below}
 use Rattle.rules.proofs.Pairs.{Paired}
 use Rattle.rules.proofs.PartLaws.{map-with, tlb-with, other-map-with, other-tlb-with}
 use Rattle.rules.proofs.Places.{named-agrees, another-agrees}
+use Rattle.rules.proofs.Accesses.{address-page, entries-alike, can-write-is, word-at-is}
 use Rattle.rules.proofs.Walks.{some-unit, made-key}
 use Rattle.rules.proofs.Updates.{list-updated, test-updated, owned-updated, put-updated, unmap-updated, tlb-updated, share-updated, unshare-updated}
 
@@ -221,3 +222,22 @@ module _ {m : Tables} (h : Wf m) (ws : List ℕ) where
   remove-does g c = peopled g false (below _ _ (c 4))
       (named-agrees g (m .holder) .0 (or-l _ _ (c 13)))
       (named-agrees g (m .dma) .0 (or-l _ _ (or-r _ _ (c 13))))
+
+  -- ── a write ──
+  pub write-does : (g u a w : ℕ) → Clear (refusals m (Write Cpu g u a w)) → vm-write-effects (viewed m (Write Cpu g u a w) ws) (view m ws) g u a w
+  write-does g u a w c =
+      let e = effective-entry (m .map) (m .tlb) u g (page-of a) in
+      let k : Keyed u g (page-of a) = record {
+        unit = below _ _ (or-l _ _ (or-r _ _ (c 4)));
+        guest = below _ _ (or-l _ _ (c 4));
+        gpage = address-page a .0 (below _ _ (or-r _ _ (or-r _ _ (c 4))));
+      } in
+      let al = entries-alike Cpu m ws u g (page-of a) k in
+      let l : live W e ≡ true = and-l _ _ (sym (can-write-is e) ∙ isnt-false _ (c 10)) in
+      record {
+        same-identity = refl;
+        same-ownership = record { hypervisor-owned = refl; vm-owned = refl; shared-pages = refl; iommu-owned = refl; iommu-shared = refl };
+        same-translation = record { s2-map = refl; tlb = refl; active-vm = refl };
+        memory = ap (λ (n : ℕ). set ws n w) (word-at-is e a l ∙ ap (λ (n : ℕ). word-of n (offset-of a)) (al .page))
+            ∙ sym (ap (λ o. inserted o w ws) (cond-true (sym (al .alive) ∙ l) _ _));
+      }

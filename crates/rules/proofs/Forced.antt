@@ -27,7 +27,7 @@ use Rattle.tables.specs.declared.state.Side.the-variants.{Cpu, Iommu}
 use Rattle.tables.proofs.TableLaws.{each-none, each-map, each-all, each-wipe, put-over, put-new, wipe-at, length-wipe}
 use Rattle.tables.proofs.WantLaws.{zero-free, of-guest-agrees, of-gpage-agrees}
 use Rattle.tables.proofs.ViewLaws.{Keyed, guest-is, gpage-is}
-use Rattle.rules.specs.Actions.{Op, absent, holds, dma-holds, another, leans, refusals, effect, next, does, accepted, Outcome, step}
+use Rattle.rules.specs.Actions.{Op, absent, holds, dma-holds, another, leans, refusals, effect, next, does, accepted, acted}
 use Rattle.rules.specs.Actions.Op.{Read, Write, HyperCall, AddVm, RemoveVm, AssignPage, ReclaimPage, SharePage, UnsharePage, Map, Unmap, ContextSwitch, Idle, Fill, Drop, IommuAssignPage, IommuReclaimPage}
 use Rattle.rules.proofs.PartLaws.{map-with, tlb-with}
 use Rattle.rules.proofs.Lowest.{when}
@@ -36,18 +36,18 @@ use Rattle.rules.proofs.Places.{another-agrees}
 
 -- ── memory ──
 -- the CPU holder's raster is kept when its page is given to its devices
-pub raster-kept : (m : Tables) (g p : ℕ) (ws : List ℕ) → holds m g p ≡ true → step m (IommuAssignPage g p) ws .memory ≡ ws
+pub raster-kept : (m : Tables) (g p : ℕ) (ws : List ℕ) → holds m g p ≡ true → acted m (IommuAssignPage g p) ws .memory ≡ ws
 unfolding does
 raster-kept m g p ws h = split (accepted (refusals m (IommuAssignPage g p))) (λ e. rw (e, or-ir (dma-holds m g p) h)) (λ e. rw e)
 
 -- a reclaimed page's words stay
-pub words-stay : (m : Tables) (g p : ℕ) (ws : List ℕ) → step m (ReclaimPage g p) ws .memory ≡ ws
+pub words-stay : (m : Tables) (g p : ℕ) (ws : List ℕ) → acted m (ReclaimPage g p) ws .memory ≡ ws
 unfolding does
 words-stay m g p ws = split (accepted (refusals m (ReclaimPage g p))) (λ e. rw e) (λ e. rw e)
 
 -- ── a page given again to the devices of the guest that has it: accepted, and nothing changes ──
 pub repeated-assign : (m : Tables) → Wf m → (g p : ℕ) (ws : List ℕ) → dma-holds m g p ≡ true →
-    step m (IommuAssignPage g p) ws ≡ record { number = 0; word = 0; tables = m; memory = ws }
+    acted m (IommuAssignPage g p) ws ≡ record { number = 0; word = 0; tables = m; memory = ws }
 unfolding does next least
 repeated-assign m h g p ws e =
     let held : dma-of m p ≡ guest g = eqb-true _ _ e in
@@ -66,7 +66,7 @@ repeated-assign m h g p ws e =
 -- an end that maps the page without holding it: no other pair of that guest on that page excuses it
 pub no-second-pair-excuses : (m : Tables) (l r p : ℕ) (ws : List ℕ) →
     (off l guests or off r guests or off p pages) ≡ false → eqb l r ≡ false → (absent m l or absent m r) ≡ false →
-    has W (shared-by l r p) (m .pairs) ≡ true → (leans m l p or leans m r p) ≡ true → step m (UnsharePage l r p) ws .number ≡ 13
+    has W (shared-by l r p) (m .pairs) ≡ true → (leans m l p or leans m r p) ≡ true → acted m (UnsharePage l r p) ws .number ≡ 13
 unfolding least
 no-second-pair-excuses m l r p ws e₄ e₅ e₆ pair leans = rw (e₄, e₅, e₆, and-i pair leans)
 

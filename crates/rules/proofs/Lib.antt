@@ -3,6 +3,7 @@ pub mod Places
 pub mod Pairs
 pub mod Ranges
 pub mod PartLaws
+pub mod Words
 pub mod Walks
 pub mod WfFrames
 pub mod WfKept
@@ -13,3 +14,5 @@ pub mod Quiescence
 pub mod Guards
 pub mod Updates
 pub mod Effects
+pub mod Unique
+pub mod SourceSteps

@@ -278,5 +278,5 @@ outcome rules m o ws = record {
 }
 
 -- an action by itself, whatever the tables
-abbrev pub step : Tables → Op → List ℕ → Outcome
-step m o ws = outcome (refusals m o) m o ws
+abbrev pub acted : Tables → Op → List ℕ → Outcome
+acted m o ws = outcome (refusals m o) m o ws
