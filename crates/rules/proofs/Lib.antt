@@ -16,3 +16,4 @@ pub mod Updates
 pub mod Effects
 pub mod Unique
 pub mod SourceSteps
+pub mod SourceRuns
