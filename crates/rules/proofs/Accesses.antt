@@ -8,10 +8,11 @@ use native.Mathlib.Omega.{arith}
 use lib.Dec.{eqb, ltb}
 use lib.ListN.{length}
 use Rattle.numbers.specs.Sizes.{guests, units, pages, gpages, page-words, guest-words, memory-words}
-use Rattle.numbers.specs.Tests.{_and_, isnt}
+use Rattle.numbers.specs.Tests.{_and_, _or_, isnt}
+use Rattle.numbers.specs.Frames.{off}
 use Rattle.numbers.specs.Addresses.{page-of, offset-of, word-of}
 use Rattle.numbers.specs.Entries.{key-of, at-unit, page-in, access-in, readable, writable}
-use Rattle.numbers.proofs.Bools.{split, clash, cond-true, cond-false, and-no-l, isnt-no, isnt-i}
+use Rattle.numbers.proofs.Bools.{split, clash, cond-true, cond-false, and-no-l, or-l, or-r, isnt-no, isnt-i}
 use Rattle.numbers.proofs.EntryLaws.{page-at-unit, access-at-unit, at-unit-live}
 use Rattle.numbers.proofs.AddressLaws.{offset-below, word-below}
 use Rattle.tables.specs.Table.{live, find, has}
@@ -27,12 +28,20 @@ use Rattle.tables.proofs.TableLaws.{each-find, live-find}
 use Rattle.tables.proofs.WantLaws.{zero-free, live-pos}
 use Rattle.tables.proofs.ViewLaws.{Keyed, entry-in, entry-keyed}
 use Rattle.rules.specs.Actions.{word-at}
+use Rattle.rules.proofs.Ranges.{below}
 use Rattle.rules.proofs.Walks.{some-unit}
 
 -- ── a guest word address is in range exactly where its page is ──
 pub address-page : (a : ℕ) → (a < guest-words) ↔ (page-of a < gpages)
 unfolding page-of page-words
 address-page a = (λ h. omega arith, λ h. omega arith)
+
+pub access-keyed : (g u a : ℕ) → (off g guests or off u units or off a guest-words) ≡ false → Keyed u g (page-of a)
+access-keyed g u a z = record {
+  unit = below _ _ (or-l _ _ (or-r _ _ z));
+  guest = below _ _ (or-l _ _ z);
+  gpage = address-page a .0 (below _ _ (or-r _ _ (or-r _ _ z)));
+}
 
 true-and : (b : Bool) → (true and b) ≡ b
 unfolding _and_

@@ -27,7 +27,7 @@ use Rattle.tables.specs.declared.state.Side.the-variants.{Cpu, Iommu}
 use Rattle.tables.proofs.TableLaws.{each-none, each-map, each-all, each-wipe, put-over, put-new, wipe-at, length-wipe}
 use Rattle.tables.proofs.WantLaws.{zero-free, of-guest-agrees, of-gpage-agrees}
 use Rattle.tables.proofs.ViewLaws.{Keyed, guest-is, gpage-is}
-use Rattle.rules.specs.Actions.{Op, absent, holds, dma-holds, another, leans, refusals, effect, next, does, accepted, acted}
+use Rattle.rules.specs.Actions.{Op, absent, holds, dma-holds, another, leans, refusals, effect, clear-page, next, does, accepted, acted}
 use Rattle.rules.specs.Actions.Op.{Read, Write, HyperCall, AddVm, RemoveVm, AssignPage, ReclaimPage, SharePage, UnsharePage, Map, Unmap, ContextSwitch, Idle, Fill, Drop, IommuAssignPage, IommuReclaimPage}
 use Rattle.rules.proofs.PartLaws.{map-with, tlb-with}
 use Rattle.rules.proofs.Lowest.{when}
@@ -39,6 +39,17 @@ use Rattle.rules.proofs.Places.{another-agrees}
 pub raster-kept : (m : Tables) (g p : ℕ) (ws : List ℕ) → holds m g p ≡ true → acted m (IommuAssignPage g p) ws .memory ≡ ws
 unfolding does
 raster-kept m g p ws h = split (accepted (refusals m (IommuAssignPage g p))) (λ e. rw (e, or-ir (dma-holds m g p) h)) (λ e. rw e)
+
+-- a page that comes to its devices anew, and to no CPU holder, is wiped; so is one that is assigned
+pub device-page-wiped : (m : Tables) (g p : ℕ) (ws : List ℕ) → accepted (refusals m (IommuAssignPage g p)) ≡ true →
+    dma-holds m g p ≡ false → holds m g p ≡ false → acted m (IommuAssignPage g p) ws .memory ≡ clear-page p ws
+unfolding does
+device-page-wiped m g p ws e a b = rw (e, or-no a b)
+
+pub assigned-page-wiped : (m : Tables) (g p : ℕ) (ws : List ℕ) → accepted (refusals m (AssignPage g p)) ≡ true →
+    acted m (AssignPage g p) ws .memory ≡ clear-page p ws
+unfolding does
+assigned-page-wiped m g p ws e = rw e
 
 -- a reclaimed page's words stay
 pub words-stay : (m : Tables) (g p : ℕ) (ws : List ℕ) → acted m (ReclaimPage g p) ws .memory ≡ ws
@@ -77,6 +88,13 @@ standing-pair-kept m l r p e = (and-no-l _ (isnt-no e), rw e)
 
 -- ── map and unmap, on either side ──
 module _ (d : Side) (m : Tables) (g v : ℕ) where
+  -- a key that stands is never refused for want of room, however full the map; nor is a TLB's
+  pub standing-key-has-room : (p x : ℕ) → has W (has-key (key-of 0 g v)) (map-of d m) ≡ true → when (refusals m (Map d g v p x)) 15 ≡ false
+  standing-key-has-room p x e = and-no-l _ (isnt-no e)
+
+  pub standing-fill-has-room : (u : ℕ) → has W (has-key (key-of u g v)) (tlb-of d m) ≡ true → when (refusals m (Fill d g u v)) 15 ≡ false
+  standing-fill-has-room u e = and-no-l _ (isnt-no e)
+
   -- every unit loses the entry
   gone : (u : ℕ) (tlb : List ℕ) → Keyed u g v → has W (has-key (key-of u g v)) (invalidated g v tlb) ≡ false
   gone u tlb k = each-none W _ (each-map W (λ y l e. not-true _ (λ t. clash

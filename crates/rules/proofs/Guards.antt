@@ -35,7 +35,7 @@ use Rattle.rules.specs.Source.{observation, effective-entry, translated-
 use Rattle.rules.proofs.Lowest.{Clear, accepted-passes, accepted-clear}
 use Rattle.rules.proofs.Places.{named-agrees, another-agrees}
 use Rattle.rules.proofs.Ranges.{in-range, below, present-below, region-below, holder-below, dma-below, running-below}
-use Rattle.rules.proofs.Accesses.{address-page, Alike, readable-alike, writable-alike, by-cond, entries-alike, found-page, nothing-is, can-read-is, can-write-is}
+use Rattle.rules.proofs.Accesses.{address-page, access-keyed, Alike, readable-alike, writable-alike, by-cond, entries-alike, found-page, nothing-is, can-read-is, can-write-is}
 use Rattle.rules.proofs.Walks.{some-unit}
 use Rattle.rules.proofs.Quiescence.{unmapped-agrees, uncached-agrees, unshared-agrees, maps-nothing-agrees, caches-nothing-agrees, shares-nothing-agrees, leans-agrees}
 
@@ -52,6 +52,12 @@ observed-is true allowed x ws = (
   λ e. some-is (allowed and ltb x (length ws)) (getD ws x 0) .1 (and-i (e .1) (lt-ltb _ _ (e .2))),
 )
 observed-is false allowed x ws = (λ o. absurd o, λ e. clash (e .0) refl)
+
+-- and the word is the one there
+pub observed-word : (b allowed : Bool) (x : ℕ) (ws : List ℕ) → IsSome (observation allowed ws (cond b (some x) none)) →
+    observation allowed ws (cond b (some x) none) ≡ some (getD ws x 0)
+observed-word true allowed x ws o = cond-true (some-is (allowed and ltb x (length ws)) (getD ws x 0) .0 o) _ _
+observed-word false allowed x ws o = absurd o
 
 module _ {m : Tables} (h : Wf m) (ws : List ℕ) (lw : length ws ≡ memory-words) where
   -- ── guests: read, write, hypercall ──
@@ -80,13 +86,6 @@ module _ {m : Tables} (h : Wf m) (ws : List ℕ) (lw : length ws ≡ memory-word
     f : ℕ
     f = effective-entry Cpu (view m ws) u g (page-of a)
 
-    keyed : (off g guests or off u units or off a guest-words) ≡ false → Keyed u g (page-of a)
-    keyed z = record {
-      unit = below _ _ (or-l _ _ (or-r _ _ z));
-      guest = below _ _ (or-l _ _ z);
-      gpage = address-page a .0 (below _ _ (or-r _ _ (or-r _ _ z)));
-    }
-
     in-ranges : Keyed u g (page-of a) → (off g guests or off u units or off a guest-words) ≡ false
     in-ranges k = or-no (in-range _ _ (k .guest)) (or-no (in-range _ _ (k .unit)) (in-range _ _ (address-page a .1 (k .gpage))))
 
@@ -98,7 +97,7 @@ module _ {m : Tables} (h : Wf m) (ws : List ℕ) (lw : length ws ≡ memory-word
     unfolding e f
     read-accepted = (
       λ q.
-          let c = accepted-clear m (Read Cpu g u a) q in let k = keyed (c 4) in
+          let c = accepted-clear m (Read Cpu g u a) q in let k = access-keyed g u a (c 4) in
           let z : (live W e and readable e) ≡ true = sym (can-read-is e) ∙ isnt-false _ (c 10) in
           let l : live W f ≡ true = sym (alike k .alive) ∙ and-l _ _ z in
           (isnt-false _ (c 6), record {
@@ -121,7 +120,7 @@ module _ {m : Tables} (h : Wf m) (ws : List ℕ) (lw : length ws ≡ memory-word
     unfolding e f
     write-accepted w = (
       λ q.
-          let c = accepted-clear m (Write Cpu g u a w) q in let k = keyed (c 4) in
+          let c = accepted-clear m (Write Cpu g u a w) q in let k = access-keyed g u a (c 4) in
           let z : (live W e and writable e) ≡ true = sym (can-write-is e) ∙ isnt-false _ (c 10) in
           let l : live W f ≡ true = sym (alike k .alive) ∙ and-l _ _ z in
           (isnt-false _ (c 6), record {

@@ -17,3 +17,4 @@ pub mod Effects
 pub mod Unique
 pub mod SourceSteps
 pub mod SourceRuns
+pub mod Worked

@@ -3,24 +3,31 @@
 use mathlib.Core.Path.{_≡_, refl, sym, _∙_, ap, subst, fun-ext}
 use mathlib.Core.Bool.{Bool, true, false, cond}
 use mathlib.Core.List.{List, [], _∷_}
+use mathlib.Core.Option.Option.{some}
 use mathlib.Core.Logic.{_↔_}
 use Prim.Native.Nat.{ℕ, _<_}
 use lib.Dec.{eqb}
-use lib.ListN.{length}
+use lib.ListN.{length, getD}
 use Rattle.numbers.specs.Sizes.{memory-words}
-use Rattle.numbers.proofs.Bools.{split}
+use Rattle.numbers.specs.Tests.{_and_}
+use Rattle.numbers.specs.Addresses.{page-of, offset-of, word-of}
+use Rattle.numbers.specs.Entries.{page-in, readable}
+use Rattle.numbers.proofs.Bools.{isnt-false}
+use Rattle.tables.specs.Table.{live}
+use Rattle.tables.specs.Wants.{W}
 use Rattle.tables.specs.State.{boot}
 use Rattle.tables.specs.Wf.{Wf}
 use Rattle.tables.specs.Views.{MachineState, view}
 use Rattle.tables.specs.declared.state.Tables.{Tables}
 use Rattle.tables.specs.declared.state.Side.the-variants.{Cpu, Iommu}
 use Rattle.rules.specs.Actions.{Op, refusals, effect, touch, touched, accepted, next, does, acted}
-use Rattle.rules.specs.Source.{VmMemOp, HypervisorOp, MachineAction, step, asked, besides}
+use Rattle.rules.specs.Source.{VmMemOp, HypervisorOp, MachineAction, step, asked, besides, effective-entry, read-observation}
 use Rattle.rules.specs.Source.VmMemOp.{Read, Write, HyperCall}
 use Rattle.rules.specs.Source.HypervisorOp.{Map, Unmap, AssignPage, ReclaimPage, SharePage, UnsharePage, ContextSwitch, AddVm, RemoveVm, IommuMap, IommuUnmap, IommuAssignPage, IommuReclaimPage}
 use Rattle.rules.specs.Source.MachineAction.{Vm, Hypervisor}
 use Rattle.rules.proofs.Lowest.{Clear, accepted-clear}
-use Rattle.rules.proofs.Guards.{read-accepted, write-accepted, hypercall-accepted, map-accepted, unmap-accepted, assign-accepted, reclaim-accepted, share-accepted, unshare-accepted, context-switch-accepted, add-accepted, remove-accepted, iommu-assign-accepted, iommu-reclaim-accepted}
+use Rattle.rules.proofs.Guards.{observed-word, read-accepted, write-accepted, hypercall-accepted, map-accepted, unmap-accepted, assign-accepted, reclaim-accepted, share-accepted, unshare-accepted, context-switch-accepted, add-accepted, remove-accepted, iommu-assign-accepted, iommu-reclaim-accepted}
+use Rattle.rules.proofs.Accesses.{access-keyed, entries-alike, nothing-is, word-at-is}
 use Rattle.rules.proofs.Effects.{viewed, read-does, write-does, hypercall-does, map-does, unmap-does, assign-does, reclaim-does, share-does, unshare-does, context-switch-does, add-does, remove-does, iommu-assign-does, iommu-assign-memory, iommu-reclaim-does}
 use Rattle.rules.proofs.Unique.{step-unique}
 
@@ -79,3 +86,16 @@ module _ {m : Tables} (h : Wf m) (ws : List ℕ) (lw : length ws ≡ memory-word
     λ q. let e = possible a s (q .0) (q .1) in (e, step-unique (view m ws) s (viewed m (asked a) ws) a (q .0) (moves a e (accepted-clear m (asked a) e) .0) ∙ sym (after-accepted a e)),
     λ q. (subst (λ (t : MachineState). step (view m ws) t a) (sym (q .1 ∙ after-accepted a (q .0))) (moves a (q .0) (accepted-clear m (asked a) (q .0)) .0), moves a (q .0) (accepted-clear m (asked a) (q .0)) .1),
   )
+
+  -- ── what a read hands back is what the source lets the guest observe ──
+  pub read-word : (g u a : ℕ) → accepted (refusals m (asked (Vm g (Read u a)))) ≡ true →
+      read-observation (view m ws) u g a ≡ some (acted m (asked (Vm g (Read u a))) ws .word)
+  unfolding does
+  read-word g u a q =
+      let c = accepted-clear m (asked (Vm g (Read u a))) q in
+      let e = Rattle.tables.specs.State.effective-entry (m .map) (m .tlb) u g (page-of a) in
+      let f = effective-entry Cpu (view m ws) u g (page-of a) in
+      let al = entries-alike Cpu m ws u g (page-of a) (access-keyed g u a (c 4)) in
+      let l : live W e ≡ true = isnt-false _ (sym (nothing-is e) ∙ c 9) in
+      rw q (observed-word (live W f) (live W f and readable f) (word-of (page-in f) (offset-of a)) ws (read-accepted h ws lw g u a .0 q .1 .observed)
+      ∙ ap (λ (n : ℕ). some (getD ws n 0)) (ap (λ (n : ℕ). word-of n (offset-of a)) (sym (al .page)) ∙ sym (word-at-is e a l)))

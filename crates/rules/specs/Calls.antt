@@ -1,7 +1,7 @@
 -- What a call does: a frame's refusals stand in front of its action's, the call's own in front of both. Then a list of actions, one
 -- after the other.
 use Prim.Native.Nat.{ℕ, zero, suc, _+_, _*_, _/_, _%_}
-use mathlib.Core.Bool.{Bool, cond}
+use mathlib.Core.Bool.{Bool, false, cond}
 use mathlib.Core.List.{List}
 use lib.Dec.{eqb, ltb}
 use lib.ListN.{length, take, drop, getD, set}
@@ -132,8 +132,8 @@ refused n s numbers words = record {
 }
 
 -- n actions handled
-abbrev pub handled : (ℕ → Action) → ℕ → Machine → List ℕ → List ℕ → Ran
-handled f n s numbers words = record {
+abbrev pub ran : (ℕ → Action) → ℕ → Machine → List ℕ → List ℕ → Ran
+ran f n s numbers words = record {
   number = 0;
   handled = n;
   accepted = accepted-of f s n;
@@ -153,7 +153,7 @@ run-rules odd n s numbers words =
 abbrev pub listed : Bool → (ℕ → Action) → ℕ → Machine → List ℕ → List ℕ → Ran
 listed odd f n s numbers words =
     let own = least (run-rules odd n s numbers words) in
-    cond (eqb own 0) (handled f n s numbers words) (refused own s numbers words)
+    cond (eqb own 0) (ran f n s numbers words) (refused own s numbers words)
 
 -- the frames in lent bytes: no multiple of a frame's bytes is odd
 abbrev pub frame-at : List ℕ → ℕ → Action
@@ -162,3 +162,10 @@ frame-at bytes i = decode (take frame-bytes (drop (i * frame-bytes) bytes))
 unfoldable pub run : List ℕ → Machine → List ℕ → List ℕ → Ran
 run bytes s numbers words =
     listed (isnt (eqb (length bytes % frame-bytes) 0)) (frame-at bytes) (length bytes / frame-bytes) s numbers words
+
+-- and actions already decoded
+abbrev pub action-at : List Action → ℕ → Action
+action-at actions i = getD actions i (record { kind = 0; guest = 0; second = 0; access = 0; address = 0; page = 0; word = 0 })
+
+unfoldable pub run-actions : List Action → Machine → List ℕ → List ℕ → Ran
+run-actions actions s numbers words = listed false (action-at actions) (length actions) s numbers words
