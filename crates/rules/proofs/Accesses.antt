@@ -1,32 +1,27 @@
 -- An access: what the tables' lookup finds is what the source's state translates to, and leads into memory.
-use mathlib.Core.Path.{_≡_, refl, sym, _∙_, ap, subst}
+use mathlib.Core.Path.{_≡_, refl, sym, _∙_}
 use mathlib.Core.Bool.{Bool, true, false, cond}
 use mathlib.Core.List.{List}
 use mathlib.Core.Logic.{_↔_}
 use Prim.Native.Nat.{ℕ, _<_}
 use native.Mathlib.Omega.{arith}
-use lib.Dec.{eqb, ltb}
-use lib.ListN.{length}
-use Rattle.numbers.specs.Sizes.{guests, units, pages, gpages, page-words, guest-words, memory-words}
+use Rattle.numbers.specs.Sizes.{guests, units, pages, gpages, page-words, guest-words}
 use Rattle.numbers.specs.Tests.{_and_, _or_, isnt}
 use Rattle.numbers.specs.Frames.{off}
 use Rattle.numbers.specs.Addresses.{page-of, offset-of, word-of}
-use Rattle.numbers.specs.Entries.{key-of, at-unit, page-in, access-in, readable, writable}
-use Rattle.numbers.proofs.Bools.{split, clash, cond-true, cond-false, and-no-l, or-l, or-r, isnt-no, isnt-i}
+use Rattle.numbers.specs.Entries.{key-of, page-in, access-in, readable, writable}
+use Rattle.numbers.proofs.Bools.{split, and-no-l, or-l, or-r, isnt-no, isnt-i}
 use Rattle.numbers.proofs.EntryLaws.{page-at-unit, access-at-unit, at-unit-live}
-use Rattle.numbers.proofs.AddressLaws.{offset-below, word-below}
-use Rattle.tables.specs.Table.{live, find, has}
+use Rattle.tables.specs.Table.{live, find}
 use Rattle.tables.specs.Wants.{W, has-key}
 use Rattle.tables.specs.State.{map-of, tlb-of, effective-entry, found, nothing, can-read, can-write}
 use Rattle.tables.specs.Wf.{Wf}
-use Rattle.tables.specs.Views.{view, entry-at}
+use Rattle.tables.specs.Views.{view}
 use Rattle.tables.specs.declared.state.Tables.{Tables}
 use Rattle.tables.specs.declared.state.Side.{Side}
-use Rattle.tables.specs.declared.state.Found.{Found}
-use Rattle.tables.specs.declared.state.Found.the-variants.{Entry, Nothing}
 use Rattle.tables.proofs.TableLaws.{each-find, live-find}
 use Rattle.tables.proofs.WantLaws.{zero-free, live-pos}
-use Rattle.tables.proofs.ViewLaws.{Keyed, entry-in, entry-keyed}
+use Rattle.tables.proofs.ViewLaws.{Keyed, entry-in}
 use Rattle.rules.specs.Actions.{word-at}
 use Rattle.rules.proofs.Ranges.{below}
 use Rattle.rules.proofs.Walks.{some-unit}

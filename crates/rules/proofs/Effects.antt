@@ -2,22 +2,20 @@
 use mathlib.Core.Path.{_≡_, refl, sym, _∙_, ap, subst, fun-ext}
 use mathlib.Core.Bool.{Bool, true, false, cond}
 use mathlib.Core.List.{List}
-use mathlib.Core.Logic.{_↔_}
-use mathlib.Core.Option.Option.{none, some}
 use Prim.Native.Nat.{ℕ, _<_}
 use native.Mathlib.Omega.{arith}
 use lib.Dec.{eqb}
 use lib.ListN.{length, getD, set}
-use borrow.Author.Tests.{eqb-true, eq-eqb, eqb-false, ne-eqb}
-use Rattle.numbers.specs.Sizes.{guests, units, pages, gpages, accesses, guest-words}
-use Rattle.numbers.specs.Tests.{_and_, _or_}
+use borrow.Author.Tests.{eqb-true, eq-eqb, ne-eqb}
+use Rattle.numbers.specs.Sizes.{guests, pages}
+use Rattle.numbers.specs.Tests.{_or_}
 use Rattle.numbers.specs.Addresses.{page-of, offset-of, word-of}
-use Rattle.numbers.specs.Entries.{key-of, entry, page-in}
-use Rattle.numbers.proofs.Bools.{split, clash, cond-true, cond-false, and-l, and-r, and-i, or-l, or-r, isnt-false, not-true}
+use Rattle.numbers.specs.Entries.{entry}
+use Rattle.numbers.proofs.Bools.{split, clash, cond-true, cond-false, and-l, and-i, or-l, or-r, isnt-false, not-true}
 use Rattle.numbers.proofs.EntryLaws.{entry-live}
-use Rattle.tables.specs.Table.{live, put, wipe}
-use Rattle.tables.specs.Wants.{W, has-key, invalidated}
-use Rattle.tables.specs.State.{nobody, hypervisor, guest, is-present, in-region, holder-of, dma-of, running-on, map-of, tlb-of, effective-entry, found}
+use Rattle.tables.specs.Table.{live}
+use Rattle.tables.specs.Wants.{W, invalidated}
+use Rattle.tables.specs.State.{nobody, hypervisor, guest, holder-of, dma-of, map-of, tlb-of, effective-entry}
 use Rattle.tables.specs.Wf.{Wf}
 use Rattle.tables.specs.Views.{MachineState, view, entry-at}
 use Rattle.tables.specs.declared.state.Tables.{Tables}
@@ -26,12 +24,11 @@ use Rattle.tables.specs.declared.state.Side.the-variants.{Cpu, Iommu}
 use Rattle.tables.proofs.WantLaws.{live-pos, has-key-agrees}
 use Rattle.tables.proofs.ViewLaws.{Keyed}
 use Rattle.rules.specs.Actions.{Op, refusals, effect, touch, touched, holds, dma-holds, clear-page}
-use Rattle.rules.specs.Actions.Op.{Read, Write, HyperCall, AddVm, RemoveVm, AssignPage, ReclaimPage, SharePage, UnsharePage, Map, Unmap, ContextSwitch, Idle, Fill, Drop, IommuAssignPage, IommuReclaimPage}
+use Rattle.rules.specs.Actions.Op.{Read, Write, HyperCall, AddVm, RemoveVm, AssignPage, ReclaimPage, SharePage, UnsharePage, Map, Unmap, ContextSwitch, IommuAssignPage, IommuReclaimPage}
 use Rattle.rules.specs.Parts.{with-present, with-pairs, with-held, with-walk}
-use Rattle.rules.specs.Source.{update, update-key, insert, remove, empty-set, with-edge, other, same-ownership-as, same-translation-as, unchanged, vm-write-effects, mapping-effects, iommu-page-effects, page-effects, sharing-effects, hv-context-switch-effects, population-effects, translated-word, inserted}
+use Rattle.rules.specs.Source.{update, update-key, insert, remove, empty-set, with-edge, same-ownership-as, same-translation-as, unchanged, vm-write-effects, mapping-effects, iommu-page-effects, page-effects, sharing-effects, hv-context-switch-effects, population-effects, inserted}
 use Rattle.rules.proofs.Lowest.{Clear}
-use Rattle.rules.proofs.Ranges.{below, present-below}
-use Rattle.rules.proofs.Pairs.{Paired}
+use Rattle.rules.proofs.Ranges.{below}
 use Rattle.rules.proofs.PartLaws.{map-with, tlb-with, other-map-with, other-tlb-with}
 use Rattle.rules.proofs.Places.{named-agrees, another-agrees}
 use Rattle.rules.proofs.Accesses.{access-keyed, entries-alike, can-write-is, word-at-is}

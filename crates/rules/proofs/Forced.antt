@@ -1,34 +1,33 @@
 -- What only the definitions force, each by itself: a raster is kept, words stay, no second pair excuses, every unit is dropped, and
 -- where entries stand.
-use mathlib.Core.Path.{_≡_, refl, sym, _∙_, ap}
+use mathlib.Core.Path.{_≡_, sym, _∙_, ap}
 use mathlib.Core.Bool.{Bool, true, false}
-use mathlib.Core.List.{List, [], _∷_}
-use Prim.Native.Nat.{ℕ, zero, suc, _<_, _≤_}
+use mathlib.Core.List.{List}
+use Prim.Native.Nat.{ℕ, _<_, _≤_}
 use native.Mathlib.Omega.{arith}
 use lib.Dec.{eqb, ltb}
 use lib.ListN.{getD, set, length}
 use lib.Seq.{set-getD}
 use borrow.Author.Tests.{eqb-true, ltb-true, ltb-false}
-use Rattle.numbers.specs.Sizes.{guests, units, pages, gpages}
-use Rattle.numbers.specs.Tests.{_and_, _or_, isnt}
+use Rattle.numbers.specs.Sizes.{guests, pages}
+use Rattle.numbers.specs.Tests.{_or_}
 use Rattle.numbers.specs.Rules.{least}
 use Rattle.numbers.specs.Search.{first}
 use Rattle.numbers.specs.Entries.{key-of, entry}
 use Rattle.numbers.specs.Frames.{off}
-use Rattle.numbers.proofs.Bools.{split, clash, cond-true, and-l, and-i, and-no-l, and-no-r, or-no, or-il, or-ir, isnt-true, isnt-no, isnt-i, not-true}
+use Rattle.numbers.proofs.Bools.{split, clash, cond-true, and-i, and-no-l, or-no, or-il, or-ir, isnt-no, not-true}
 use Rattle.numbers.proofs.SearchLaws.{first-passes, first-lowest}
-use Rattle.tables.specs.Table.{has, hit, live, put, wipe, cleared, place}
+use Rattle.tables.specs.Table.{has, hit, put, wipe, cleared, place}
 use Rattle.tables.specs.Wants.{W, has-key, everywhere, shared-by, invalidated}
-use Rattle.tables.specs.State.{guest, is-present, in-region, holder-of, dma-of, map-of, tlb-of}
+use Rattle.tables.specs.State.{guest, is-present, holder-of, dma-of, map-of, tlb-of}
 use Rattle.tables.specs.Wf.{Wf}
 use Rattle.tables.specs.declared.state.Tables.{Tables}
 use Rattle.tables.specs.declared.state.Side.{Side}
-use Rattle.tables.specs.declared.state.Side.the-variants.{Cpu, Iommu}
 use Rattle.tables.proofs.TableLaws.{each-none, each-map, each-all, each-wipe, put-over, put-new, wipe-at, length-wipe}
 use Rattle.tables.proofs.WantLaws.{zero-free, of-guest-agrees, of-gpage-agrees}
 use Rattle.tables.proofs.ViewLaws.{Keyed, guest-is, gpage-is}
-use Rattle.rules.specs.Actions.{Op, absent, holds, dma-holds, another, leans, refusals, effect, clear-page, next, does, accepted, acted}
-use Rattle.rules.specs.Actions.Op.{Read, Write, HyperCall, AddVm, RemoveVm, AssignPage, ReclaimPage, SharePage, UnsharePage, Map, Unmap, ContextSwitch, Idle, Fill, Drop, IommuAssignPage, IommuReclaimPage}
+use Rattle.rules.specs.Actions.{absent, holds, dma-holds, leans, refusals, effect, clear-page, next, does, accepted, acted}
+use Rattle.rules.specs.Actions.Op.{AssignPage, ReclaimPage, SharePage, UnsharePage, Map, Unmap, Fill, IommuAssignPage}
 use Rattle.rules.proofs.PartLaws.{map-with, tlb-with}
 use Rattle.rules.proofs.Lowest.{when}
 use Rattle.rules.proofs.Ranges.{in-range, present-below, dma-below}
@@ -67,8 +66,8 @@ repeated-assign m h g p ws e =
       or-no (in-range g guests (present-below h g here)) (in-range p pages (dma-below h p (omega arith))),
       isnt-no here,
       or-no (h .pages-wf p .region-not-iommu-owned g held) (or-no
-      (another-agrees g (dma-of m p) .1 (λ k s. omega arith))
-      (another-agrees g (holder-of m p) .1 (λ k s. h .pages-wf p .one-guest k g s held))),
+          (another-agrees g (dma-of m p) .1 (λ k s. omega arith))
+          (another-agrees g (holder-of m p) .1 (λ k s. h .pages-wf p .one-guest k g s held))),
       ap (set (m .dma) p) (sym held) ∙ set-getD (m .dma) p 0,
       or-il (holds m g p) e,
     )

@@ -2,37 +2,37 @@
 use mathlib.Core.Path.{_≡_, refl, sym, _∙_, ap, subst, fun-ext}
 use mathlib.Core.Bool.{Bool, true, false, cond}
 use mathlib.Core.List.{List}
-use mathlib.Core.Option.{Option, IsSome}
+use mathlib.Core.Option.{IsSome}
 use mathlib.Core.Option.Option.{none, some}
-use mathlib.Core.Logic.{_↔_, _⊎_, inl, inr, ⊎-elim}
+use mathlib.Core.Logic.{_↔_, inl, inr, ⊎-elim}
 use Prim.Native.Nat.{ℕ, _<_}
 use native.Mathlib.Omega.{arith}
 use lib.Dec.{eqb, ltb}
 use lib.ListN.{length, getD}
 use borrow.Author.Tests.{eqb-true, eq-eqb, eqb-false, ne-eqb, ltb-true, lt-ltb}
 use Rattle.numbers.specs.Sizes.{guests, units, pages, gpages, accesses, guest-words, memory-words}
-use Rattle.numbers.specs.Tests.{_and_, _or_, isnt}
+use Rattle.numbers.specs.Tests.{_and_, _or_}
 use Rattle.numbers.specs.Addresses.{page-of, offset-of, word-of}
-use Rattle.numbers.specs.Entries.{key-of, page-in, guest-in, left-in, right-in, at-unit, readable, writable}
+use Rattle.numbers.specs.Entries.{key-of, page-in, readable, writable}
 use Rattle.numbers.specs.Frames.{off}
-use Rattle.numbers.proofs.Bools.{split, clash, cond-true, cond-false, and-l, and-r, and-i, and-no-r, or-e, or-l, or-r, or-no, isnt-true, isnt-false, isnt-i, isnt-no, not-true, not-false}
+use Rattle.numbers.proofs.Bools.{split, clash, cond-true, and-l, and-r, and-i, and-no-r, or-e, or-l, or-r, or-no, isnt-true, isnt-false, isnt-i, isnt-no, not-true}
 use Rattle.numbers.proofs.AddressLaws.{offset-below, word-below}
-use Rattle.tables.specs.Table.{live, find, has, no-room, Each}
-use Rattle.tables.specs.Wants.{W, has-key, of-guest, to-page, maps, ends-at, shared-by}
-use Rattle.tables.specs.State.{nobody, hypervisor, guest, is-present, in-region, holder-of, dma-of, running-on, map-of, tlb-of, may-reach, nothing, can-read, can-write, found}
+use Rattle.tables.specs.Table.{live, no-room}
+use Rattle.tables.specs.Wants.{W, has-key, shared-by}
+use Rattle.tables.specs.State.{hypervisor, guest, is-present, in-region, holder-of, dma-of, running-on, map-of, tlb-of, may-reach}
 use Rattle.tables.specs.Wf.{Wf}
-use Rattle.tables.specs.Views.{view, entry-at, in-s2-map, in-tlb, cpu-runs}
+use Rattle.tables.specs.Views.{view, entry-at, in-s2-map}
 use Rattle.tables.specs.declared.state.Tables.{Tables}
 use Rattle.tables.specs.declared.state.Side.{Side}
 use Rattle.tables.specs.declared.state.Side.the-variants.{Cpu, Iommu}
-use Rattle.tables.proofs.TableLaws.{find-passes, each-find, each-none, each-map, none-each, has-also, live-find}
-use Rattle.tables.proofs.WantLaws.{zero-free, of-guest-agrees, to-page-agrees, ends-at-agrees, joins-agrees, has-key-agrees}
-use Rattle.tables.proofs.ViewLaws.{Keyed, guest-is, gpage-is, unit-is, entry-in, entry-keyed, entry-there, there-entry, turned, reach-agrees}
+use Rattle.tables.proofs.TableLaws.{find-passes, each-find}
+use Rattle.tables.proofs.WantLaws.{to-page-agrees}
+use Rattle.tables.proofs.ViewLaws.{Keyed, entry-keyed, entry-there, there-entry, turned, reach-agrees}
 use Rattle.tables.proofs.SourceWf.{source-wf}
-use Rattle.rules.specs.Actions.{Op, refusals, accepted, holds, leans, named, another}
-use Rattle.rules.specs.Actions.Op.{Read, Write, HyperCall, AddVm, RemoveVm, AssignPage, ReclaimPage, SharePage, UnsharePage, Map, Unmap, ContextSwitch, Idle, Fill, Drop, IommuAssignPage, IommuReclaimPage}
-use Rattle.rules.specs.Source.{observation, effective-entry, translated-word, read-observation, vm-read-guards, vm-write-guards, vm-hypercall-guards, map-guards, unmap-guards, hv-iommu-assign-page-guards, hv-iommu-reclaim-page-guards, hv-assign-page-guards, hv-reclaim-page-guards, hv-share-page-guards, hv-unshare-page-guards, hv-context-switch-guards, hv-add-vm-guards, hv-remove-vm-guards, page-is-quiescent, iommu-page-is-quiescent, empty-set}
-use Rattle.rules.proofs.Lowest.{Clear, accepted-passes, accepted-clear}
+use Rattle.rules.specs.Actions.{refusals, accepted, holds, leans, named, another}
+use Rattle.rules.specs.Actions.Op.{Read, Write, HyperCall, AddVm, RemoveVm, AssignPage, ReclaimPage, SharePage, UnsharePage, Map, Unmap, ContextSwitch, IommuAssignPage, IommuReclaimPage}
+use Rattle.rules.specs.Source.{observation, effective-entry, vm-read-guards, vm-write-guards, vm-hypercall-guards, map-guards, unmap-guards, hv-iommu-assign-page-guards, hv-iommu-reclaim-page-guards, hv-assign-page-guards, hv-reclaim-page-guards, hv-share-page-guards, hv-unshare-page-guards, hv-context-switch-guards, hv-add-vm-guards, hv-remove-vm-guards, empty-set}
+use Rattle.rules.proofs.Lowest.{accepted-passes, accepted-clear}
 use Rattle.rules.proofs.Places.{named-agrees, another-agrees}
 use Rattle.rules.proofs.Ranges.{in-range, below, present-below, region-below, holder-below, dma-below, running-below}
 use Rattle.rules.proofs.Accesses.{address-page, access-keyed, Alike, readable-alike, writable-alike, by-cond, entries-alike, found-page, nothing-is, can-read-is, can-write-is}
@@ -99,13 +99,15 @@ module _ {m : Tables} (h : Wf m) (ws : List ℕ) (lw : length ws ≡ memory-word
       λ q.
           let c = accepted-clear m (Read Cpu g u a) q in let k = access-keyed g u a (c 4) in
           let z : (live W e and readable e) ≡ true = sym (can-read-is e) ∙ isnt-false _ (c 10) in
-          let l : live W f ≡ true = sym (alike k .alive) ∙ and-l _ _ z in
-          (isnt-false _ (c 6), record {
-            wf = source-wf m ws h;
-            runs = eqb-true _ _ (isnt-false _ (c 8));
-            observed = observed-is (live W f) (live W f and readable f) (word-of (page-in f) (offset-of a)) ws .1
-                (l, and-i l (sym (readable-alike (alike k)) ∙ and-r _ _ z), in-memory Cpu u g (page-of a) a k l);
-          }),
+          let l : live W f ≡ true = sym (alike k .alive) ∙ and-l _ _ z in (
+            isnt-false _ (c 6),
+            record {
+              wf = source-wf m ws h;
+              runs = eqb-true _ _ (isnt-false _ (c 8));
+              observed = observed-is (live W f) (live W f and readable f) (word-of (page-in f) (offset-of a)) ws .1
+                  (l, and-i l (sym (readable-alike (alike k)) ∙ and-r _ _ z), in-memory Cpu u g (page-of a) a k l);
+            },
+          ),
       λ q.
           let o = observed-is (live W f) (live W f and readable f) (word-of (page-in f) (offset-of a)) ws .0 (q .1 .observed) in
           let k = source-keyed Cpu u g (page-of a) (runs-below u g (q .1 .runs)) (o .0) in
@@ -122,13 +124,15 @@ module _ {m : Tables} (h : Wf m) (ws : List ℕ) (lw : length ws ≡ memory-word
       λ q.
           let c = accepted-clear m (Write Cpu g u a w) q in let k = access-keyed g u a (c 4) in
           let z : (live W e and writable e) ≡ true = sym (can-write-is e) ∙ isnt-false _ (c 10) in
-          let l : live W f ≡ true = sym (alike k .alive) ∙ and-l _ _ z in
-          (isnt-false _ (c 6), record {
-            wf = source-wf m ws h;
-            runs = eqb-true _ _ (isnt-false _ (c 8));
-            translated = some-is (live W f) (word-of (page-in f) (offset-of a)) .1 l;
-            allowed = and-i l (sym (writable-alike (alike k)) ∙ and-r _ _ z);
-          }),
+          let l : live W f ≡ true = sym (alike k .alive) ∙ and-l _ _ z in (
+            isnt-false _ (c 6),
+            record {
+              wf = source-wf m ws h;
+              runs = eqb-true _ _ (isnt-false _ (c 8));
+              translated = some-is (live W f) (word-of (page-in f) (offset-of a)) .1 l;
+              allowed = and-i l (sym (writable-alike (alike k)) ∙ and-r _ _ z);
+            },
+          ),
       λ q.
           let k = source-keyed Cpu u g (page-of a) (runs-below u g (q .1 .runs)) (and-l _ _ (q .1 .allowed)) in
           let l : live W e ≡ true = alike k .alive ∙ and-l _ _ (q .1 .allowed) in
@@ -165,11 +169,11 @@ module _ {m : Tables} (h : Wf m) (ws : List ℕ) (lw : length ws ≡ memory-word
       (map-guards d (view m ws) g p × (v < gpages) × (x < accesses) × (no-room W (has-key (key-of 0 g v)) (map-of d m) ≡ false))
   map-accepted d g v p x = (
     λ q. let c = accepted-clear m (Map d g v p x) q in (
-          record { wf = source-wf m ws h; present = isnt-false _ (c 6); entitled = reach-agrees m ws g p d .0 (isnt-false _ (c 11)) },
-          below _ _ (or-l _ _ (or-r _ _ (c 4))),
-          below _ _ (or-r _ _ (or-r _ _ (or-r _ _ (c 4)))),
-          c 15,
-        ),
+      record { wf = source-wf m ws h; present = isnt-false _ (c 6); entitled = reach-agrees m ws g p d .0 (isnt-false _ (c 11)) },
+      below _ _ (or-l _ _ (or-r _ _ (c 4))),
+      below _ _ (or-r _ _ (or-r _ _ (or-r _ _ (c 4)))),
+      c 15,
+    ),
     λ q.
         let may = reach-agrees m ws g p d .1 (q .0 .entitled) in
         accepted-passes m (Map d g v p x) .1
@@ -181,10 +185,10 @@ module _ {m : Tables} (h : Wf m) (ws : List ℕ) (lw : length ws ≡ memory-word
   pub unmap-accepted : (d : Side) (g v : ℕ) → accepted (refusals m (Unmap d g v)) ≡ true ↔ unmap-guards d (view m ws) g v
   unmap-accepted d g v = (
     λ q. let c = accepted-clear m (Unmap d g v) q in record {
-          wf = source-wf m ws h;
-          mapped = there-entry (map-of d m) 0 g v
-              (record { unit = some-unit; guest = below _ _ (or-l _ _ (c 4)); gpage = below _ _ (or-r _ _ (c 4)) }) (isnt-false _ (c 14));
-        },
+      wf = source-wf m ws h;
+      mapped = there-entry (map-of d m) 0 g v
+          (record { unit = some-unit; guest = below _ _ (or-l _ _ (c 4)); gpage = below _ _ (or-r _ _ (c 4)) }) (isnt-false _ (c 14));
+    },
     λ q.
         let k = entry-keyed (map-of d m) 0 g v (q .mapped) in
         accepted-passes m (Unmap d g v) .1
@@ -198,10 +202,10 @@ module _ {m : Tables} (h : Wf m) (ws : List ℕ) (lw : length ws ≡ memory-word
       (hv-assign-page-guards (view m ws) g p × (in-region m p ≡ false) × (another g (dma-of m p) ≡ false))
   assign-accepted g p = (
     λ q. let c = accepted-clear m (AssignPage g p) q in (
-          record { wf = source-wf m ws h; present = isnt-false _ (c 6); pooled = isnt-false _ (c 11) },
-          or-l _ _ (c 12),
-          or-r _ _ (c 12),
-        ),
+      record { wf = source-wf m ws h; present = isnt-false _ (c 6); pooled = isnt-false _ (c 11) },
+      or-l _ _ (c 12),
+      or-r _ _ (c 12),
+    ),
     λ q.
         let held : holder-of m p ≡ hypervisor = eqb-true _ _ (q .0 .pooled) in
         accepted-passes m (AssignPage g p) .1
@@ -227,15 +231,15 @@ module _ {m : Tables} (h : Wf m) (ws : List ℕ) (lw : length ws ≡ memory-word
       (hv-share-page-guards (view m ws) l r p × (no-room W (shared-by l r p) (m .pairs) ≡ false))
   share-accepted l r p = (
     λ q. let c = accepted-clear m (SharePage l r p) q in (
-          record {
-            wf = source-wf m ws h;
-            differ = eqb-false _ _ (c 5);
-            left-present = isnt-false _ (or-l _ _ (c 6));
-            right-present = isnt-false _ (or-r _ _ (c 6));
-            owned = isnt-false _ (c 11);
-          },
-          c 15,
-        ),
+      record {
+        wf = source-wf m ws h;
+        differ = eqb-false _ _ (c 5);
+        left-present = isnt-false _ (or-l _ _ (c 6));
+        right-present = isnt-false _ (or-r _ _ (c 6));
+        owned = isnt-false _ (c 11);
+      },
+      c 15,
+    ),
     λ q.
         let held : holder-of m p ≡ guest l = eqb-true _ _ (q .0 .owned) in
         accepted-passes m (SharePage l r p) .1
@@ -281,15 +285,15 @@ module _ {m : Tables} (h : Wf m) (ws : List ℕ) (lw : length ws ≡ memory-word
   pub reclaim-accepted : (g p : ℕ) → accepted (refusals m (ReclaimPage g p)) ≡ true ↔ hv-reclaim-page-guards (view m ws) g p
   reclaim-accepted g p = (
     λ q. let c = accepted-clear m (ReclaimPage g p) q in let z = isnt-false _ (c 13) in record {
-          wf = source-wf m ws h;
-          present = isnt-false _ (c 6);
-          owned = isnt-false _ (c 11);
-          quiescent = (
-            unmapped-agrees h ws Cpu p .0 (isnt-true _ (and-l _ _ (and-l _ _ z))),
-            uncached-agrees h ws Cpu p .0 (isnt-true _ (and-r _ _ (and-l _ _ z))),
-            unshared-agrees h ws p .0 (isnt-true _ (and-r _ _ z)),
-          );
-        },
+      wf = source-wf m ws h;
+      present = isnt-false _ (c 6);
+      owned = isnt-false _ (c 11);
+      quiescent = (
+        unmapped-agrees h ws Cpu p .0 (isnt-true _ (and-l _ _ (and-l _ _ z))),
+        uncached-agrees h ws Cpu p .0 (isnt-true _ (and-r _ _ (and-l _ _ z))),
+        unshared-agrees h ws p .0 (isnt-true _ (and-r _ _ z)),
+      );
+    },
     λ q.
         let held : holder-of m p ≡ guest g = eqb-true _ _ (q .owned) in
         accepted-passes m (ReclaimPage g p) .1
@@ -303,11 +307,11 @@ module _ {m : Tables} (h : Wf m) (ws : List ℕ) (lw : length ws ≡ memory-word
   pub iommu-reclaim-accepted : (g p : ℕ) → accepted (refusals m (IommuReclaimPage g p)) ≡ true ↔ hv-iommu-reclaim-page-guards (view m ws) g p
   iommu-reclaim-accepted g p = (
     λ q. let c = accepted-clear m (IommuReclaimPage g p) q in let z = isnt-false _ (c 13) in record {
-          wf = source-wf m ws h;
-          present = isnt-false _ (c 6);
-          owned = isnt-false _ (c 11);
-          quiescent = (unmapped-agrees h ws Iommu p .0 (isnt-true _ (and-l _ _ z)), uncached-agrees h ws Iommu p .0 (isnt-true _ (and-r _ _ z)));
-        },
+      wf = source-wf m ws h;
+      present = isnt-false _ (c 6);
+      owned = isnt-false _ (c 11);
+      quiescent = (unmapped-agrees h ws Iommu p .0 (isnt-true _ (and-l _ _ z)), uncached-agrees h ws Iommu p .0 (isnt-true _ (and-r _ _ z)));
+    },
     λ q.
         let held : dma-of m p ≡ guest g = eqb-true _ _ (q .owned) in
         accepted-passes m (IommuReclaimPage g p) .1
@@ -329,15 +333,15 @@ module _ {m : Tables} (h : Wf m) (ws : List ℕ) (lw : length ws ≡ memory-word
   pub iommu-assign-accepted : (g p : ℕ) → accepted (refusals m (IommuAssignPage g p)) ≡ true ↔ (hv-iommu-assign-page-guards (view m ws) g p × (p < pages))
   iommu-assign-accepted g p = (
     λ q. let c = accepted-clear m (IommuAssignPage g p) q in (
-          record {
-            wf = source-wf m ws h;
-            present = isnt-false _ (c 6);
-            not-shared = or-l _ _ (c 12);
-            not-iommu-owned = others g (dma-of m p) (h .pages-wf p .iommu-ownership-wf) .0 (or-l _ _ (or-r _ _ (c 12)));
-            not-owned = others g (holder-of m p) (h .pages-wf p .ownership-wf) .0 (or-r _ _ (or-r _ _ (c 12)));
-          },
-          below _ _ (or-r _ _ (c 4)),
-        ),
+      record {
+        wf = source-wf m ws h;
+        present = isnt-false _ (c 6);
+        not-shared = or-l _ _ (c 12);
+        not-iommu-owned = others g (dma-of m p) (h .pages-wf p .iommu-ownership-wf) .0 (or-l _ _ (or-r _ _ (c 12)));
+        not-owned = others g (holder-of m p) (h .pages-wf p .ownership-wf) .0 (or-r _ _ (or-r _ _ (c 12)));
+      },
+      below _ _ (or-r _ _ (c 4)),
+    ),
     λ q. accepted-passes m (IommuAssignPage g p) .1
         (and-i (isnt-i (or-no (in-range _ _ (present-below h g (q .0 .present))) (in-range _ _ (q .1))))
         (and-i (isnt-i (isnt-no (q .0 .present)))

@@ -1,29 +1,26 @@
 -- Refusals of a frame and of a call in front of an action's; and lists: every state on the way is in good order, and neither a number
 -- nor a table depends on a word of memory.
-use mathlib.Core.Path.{_≡_, refl, sym, _∙_, ap, subst}
-use mathlib.Core.Bool.{Bool, true, false, cond}
+use mathlib.Core.Path.{_≡_, refl, ap}
+use mathlib.Core.Bool.{true, false, cond}
 use mathlib.Core.List.{List}
-use mathlib.Core.Logic.{_↔_}
-use Prim.Native.Nat.{ℕ, zero, suc, _<_, _≤_}
+use Prim.Native.Nat.{ℕ, zero, suc, _<_}
 use native.Mathlib.Omega.{arith}
 use lib.Dec.{eqb}
-use lib.ListN.{length}
 use borrow.Author.Tests.{eq-eqb, ne-eqb, ltb-true}
-use Rattle.numbers.specs.Tests.{_and_, isnt}
 use Rattle.numbers.specs.Rules.{Rules, least}
 use Rattle.numbers.specs.Rules.Rules.{accept, _⇒_∣_}
 use Rattle.numbers.specs.Frames.{decode, frame-rules}
 use Rattle.numbers.specs.declared.frames.Action.{Action}
-use Rattle.numbers.proofs.Bools.{split, clash, and-l, and-r, and-i, isnt-true, isnt-false}
+use Rattle.numbers.proofs.Bools.{split, and-l, and-r, and-i, isnt-true, isnt-false}
 use Rattle.numbers.proofs.RulesLaws.{rising}
 use Rattle.tables.specs.Wf.{Wf, wf}
 use Rattle.tables.specs.State.{boot}
 use Rattle.tables.specs.declared.state.Tables.{Tables}
 use Rattle.tables.proofs.WfAgrees.{wf-sound, wf-complete}
 use Rattle.tables.proofs.BootWf.{boot-wf}
-use Rattle.rules.specs.Actions.{Op, refusals, effect, accepted, next, outcome}
-use Rattle.rules.specs.Calls.{op-of, _then_, action-rules, taken, act-rules, act, Machine, after, answer}
-use Rattle.rules.proofs.Lowest.{all-pass, passes, rising-refusals, rising-action, rising-act, accepted-passes}
+use Rattle.rules.specs.Actions.{refusals, accepted, next}
+use Rattle.rules.specs.Calls.{op-of, _then_, action-rules, act-rules, act, Machine, after, answer}
+use Rattle.rules.proofs.Lowest.{all-pass, passes, rising-action, rising-act, accepted-passes}
 use Rattle.rules.proofs.WfKept.{wf-kept}
 
 -- ── one list of refusals in front of another ──

@@ -5,17 +5,17 @@ use mathlib.Core.List.{List}
 use mathlib.Core.Logic.{_↔_, _⊎_}
 use Prim.Native.Nat.{ℕ, _≤_, _<_}
 use native.Mathlib.Omega.{arith}
-use lib.Dec.{eqb, ltb, leb}
-use borrow.Author.Tests.{eqb-true, eq-eqb, ne-eqb, ltb-true, leb-true, le-leb}
+use lib.Dec.{eqb}
+use borrow.Author.Tests.{eqb-true, ne-eqb, ltb-true}
 use Rattle.numbers.specs.Tests.{_and_, isnt}
 use Rattle.numbers.specs.Rules.{Rules, least}
 use Rattle.numbers.specs.Rules.Rules.{accept, _⇒_∣_}
-use Rattle.numbers.specs.Frames.{decode, frame-rules}
+use Rattle.numbers.specs.Frames.{decode}
 use Rattle.numbers.specs.declared.frames.Action.{Action}
 use Rattle.numbers.proofs.Bools.{split, clash, and-l, and-r, and-i, isnt-true, isnt-i, isnt-no}
 use Rattle.numbers.proofs.RulesLaws.{Applies, rising, least-applies, least-lowest}
 use Rattle.tables.specs.declared.state.Tables.{Tables}
-use Rattle.rules.specs.Actions.{Op, refusals, effect, touched, handed-back, accepted, next, does, Outcome, outcome}
+use Rattle.rules.specs.Actions.{Op, refusals, accepted, next, does, Outcome, outcome}
 use Rattle.rules.specs.Actions.Op.{Read, Write, HyperCall, AddVm, RemoveVm, AssignPage, ReclaimPage, SharePage, UnsharePage, Map, Unmap, ContextSwitch, Idle, Fill, Drop, IommuAssignPage, IommuReclaimPage}
 use Rattle.rules.specs.Calls.{op-of, _then_, action-rules, act-rules, Machine, run-rules, refused, listed}
 

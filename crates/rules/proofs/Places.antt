@@ -1,6 +1,6 @@
 -- A list after a store at one place, and whom a list of holders names.
-use mathlib.Core.Path.{_≡_, refl, sym, _∙_, ap}
-use mathlib.Core.Bool.{true, false}
+use mathlib.Core.Path.{_≡_, refl, sym, ap}
+use mathlib.Core.Bool.{false}
 use mathlib.Core.List.{List, [], _∷_}
 use mathlib.Core.Logic.{_↔_}
 use Prim.Native.Nat.{ℕ, zero, suc, _-_, _≤_, _<_}
@@ -11,7 +11,7 @@ use borrow.Author.Tests.{eqb-true, eq-eqb, ltb-true, ltb-false, leb-true, le-leb
 use Rattle.numbers.specs.Search.{first}
 use Rattle.numbers.proofs.Bools.{split, clash, and-l, and-r, and-i, isnt-true, isnt-i, not-true}
 use Rattle.numbers.proofs.SearchLaws.{first-passes, first-lowest}
-use Rattle.tables.specs.State.{guest, a-guest}
+use Rattle.tables.specs.State.{guest}
 use Rattle.rules.specs.Actions.{another, named}
 
 -- a statement of what stands at q after a store at i, from its two cases

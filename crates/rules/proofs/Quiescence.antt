@@ -1,18 +1,15 @@
 -- What a search over the tables finds nothing of, no key of the source's state leads to: quiescence, who leans on a page, who is still
 -- in use.
-use mathlib.Core.Path.{_≡_, refl, sym, _∙_, ap, subst}
+use mathlib.Core.Path.{_≡_, refl, sym, _∙_, subst}
 use mathlib.Core.Bool.{Bool, true, false}
 use mathlib.Core.List.{List}
 use mathlib.Core.Logic.{_↔_, inl, inr, ⊎-elim}
 use Prim.Native.Nat.{ℕ}
-use lib.Dec.{eqb}
-use borrow.Author.Tests.{eqb-true, eq-eqb, eqb-false, ne-eqb}
-use Rattle.numbers.specs.Tests.{_and_, isnt}
 use Rattle.numbers.specs.Entries.{page-in, guest-in, left-in, right-in}
 use Rattle.numbers.proofs.Bools.{split, clash, and-l, and-r, and-i, and-no-l, and-no-r, isnt-i, isnt-no, not-true, not-false}
 use Rattle.tables.specs.Table.{live, find, has}
 use Rattle.tables.specs.Wants.{W, of-guest, to-page, maps, ends-at, shared-by}
-use Rattle.tables.specs.State.{guest, holder-of, map-of, tlb-of}
+use Rattle.tables.specs.State.{map-of, tlb-of}
 use Rattle.tables.specs.Wf.{Wf}
 use Rattle.tables.specs.Views.{view, entry-at, in-s2-map, in-tlb}
 use Rattle.tables.specs.declared.state.Tables.{Tables}
@@ -96,9 +93,9 @@ module _ {m : Tables} (h : Wf m) (ws : List ℕ) where
       has W (ends-at g) (m .pairs) ≡ false ↔ ((l r q : ℕ) → has W (shared-by l r q) (m .pairs) ≡ true → (l ≡ g → ⊥) × (r ≡ g → ⊥))
   shares-nothing-agrees g = (
     λ n l r q t. let x = find W (shared-by l r q) (m .pairs) in let e = joins-agrees l r x .0 (and-r _ _ (and-r _ _ (find-passes W _ (m .pairs) t))) in (
-          λ s. clash (has-also W _ (ends-at g) (m .pairs) t (ends-at-agrees g x .1 (⊎-elim (λ z. inl (sym s ∙ z .0)) (λ z. inr (sym s ∙ z .0)) e))) n,
-          λ s. clash (has-also W _ (ends-at g) (m .pairs) t (ends-at-agrees g x .1 (⊎-elim (λ z. inr (sym s ∙ z .1)) (λ z. inl (sym s ∙ z .1)) e))) n,
-        ),
+      λ s. clash (has-also W _ (ends-at g) (m .pairs) t (ends-at-agrees g x .1 (⊎-elim (λ z. inl (sym s ∙ z .0)) (λ z. inr (sym s ∙ z .0)) e))) n,
+      λ s. clash (has-also W _ (ends-at g) (m .pairs) t (ends-at-agrees g x .1 (⊎-elim (λ z. inr (sym s ∙ z .1)) (λ z. inl (sym s ∙ z .1)) e))) n,
+    ),
     λ f. not-true _ (λ t.
         let x = find W (ends-at g) (m .pairs) in
         let n = f (left-in x) (right-in x) (page-in x) (has-also W (ends-at g) (shared-by (left-in x) (right-in x) (page-in x)) (m .pairs) t

@@ -1,20 +1,19 @@
 -- Boot is the source's `init`, and runs of accepted actions are executions of the source.
-use mathlib.Core.Path.{_≡_, refl, sym, _∙_, ap, subst, fun-ext}
+use mathlib.Core.Path.{_≡_, refl, sym, _∙_, ap, fun-ext}
 use mathlib.Core.Bool.{Bool, true, false, cond}
 use mathlib.Core.List.{List, [], _∷_}
-use Prim.Native.Nat.{ℕ, zero, suc, _/_, _%_, _^_, _<_}
+use Prim.Native.Nat.{ℕ, zero, suc, _^_}
 use native.Mathlib.Nat.{zero-div}
-use lib.Dec.{eqb, ltb}
+use lib.Dec.{ltb}
 use lib.ListN.{length, getD, replicate, getD-replicate, length-replicate}
 use borrow.Author.Tests.{ne-eqb, ltb-true, ltb-false}
 use Rattle.numbers.specs.Sizes.{guests, units, pages, map-room, tlb-room, pair-room, memory-words}
 use Rattle.numbers.proofs.Bools.{split, clash, and-no-l, isnt-no}
 use Rattle.tables.specs.Table.{has}
-use Rattle.tables.specs.Wants.{W, has-key, shared-by}
-use Rattle.tables.specs.State.{nobody, guest, is-present, in-region, holder-of, bit, tabulate, bare, boot}
+use Rattle.tables.specs.Wants.{W, shared-by}
+use Rattle.tables.specs.State.{nobody, is-present, bit, tabulate, bare, boot}
 use Rattle.tables.specs.Wf.{Wf}
 use Rattle.tables.specs.Views.{MachineState, view, entry-at}
-use Rattle.tables.specs.declared.state.Tables.{Tables}
 use Rattle.tables.specs.declared.state.Side.the-variants.{Cpu, Iommu}
 use Rattle.tables.proofs.TableLaws.{has-nil, has-skip, find-none}
 use Rattle.tables.proofs.WantLaws.{zero-free}
@@ -23,7 +22,7 @@ use Rattle.tables.proofs.ViewLaws.{keyed-or, entry-in, entry-out}
 use Rattle.tables.proofs.BootWf.{boot-wf}
 use Rattle.rules.specs.Actions.{refusals, touch, accepted, next, does, acted}
 use Rattle.rules.specs.Calls.{Machine}
-use Rattle.rules.specs.Source.{MachineAction, step, asked, init, init-empty, is-execution, last, reachable, empty-set}
+use Rattle.rules.specs.Source.{MachineAction, step, asked, init, init-empty, is-execution, last, reachable}
 use Rattle.rules.proofs.Words.{length-touched}
 use Rattle.rules.proofs.WfKept.{wf-kept}
 use Rattle.rules.proofs.SourceSteps.{step-exactly}
@@ -58,7 +57,7 @@ module _ (hv rg : ℕ) (ws : List ℕ) where
     shared-pages = fun-ext (λ l. fun-ext (λ r. fun-ext (λ p. nothing-there (shared-by l r p) pair-room)));
     s2-map = fun-ext (elim [ Cpu ↦ fun-ext (λ g. fun-ext (λ v. no-entry map-room 0 g v)) | Iommu ↦ fun-ext (λ g. fun-ext (λ v. no-entry map-room 0 g v)) ]);
     tlb = fun-ext (elim [
-      Cpu ↦ fun-ext (λ u. fun-ext (λ g. fun-ext (λ v. no-entry tlb-room u g v)))
+      | Cpu ↦ fun-ext (λ u. fun-ext (λ g. fun-ext (λ v. no-entry tlb-room u g v)))
       | Iommu ↦ fun-ext (λ u. fun-ext (λ g. fun-ext (λ v. no-entry tlb-room u g v)))
     ]);
     iommu-owned = fun-ext (λ g. fun-ext (λ p. ne-eqb _ _ (λ e. clash (boot-wf hv rg .pages-wf p .iommu-ownership-wf g e) (nobody-here g))));
@@ -72,9 +71,12 @@ no-bit p = rw (zero-div (2 ^ p))
 
 pub boot-init : (hv : ℕ) (ws : List ℕ) → init (view (boot hv 0) ws)
 unfolding boot bare Filled
-boot-init hv ws = (boot-empty hv 0 ws, fun-ext (λ p. split (ltb p pages)
-    (λ t. tabulate-at pages (bit 0) false p (ltb-true p pages t) ∙ no-bit p)
-    (λ t. getD-past (tabulate pages (bit 0)) false pages p (length-tabulate pages (bit 0)) (ltb-false p pages t))))
+boot-init hv ws = (
+  boot-empty hv 0 ws,
+  fun-ext (λ p. split (ltb p pages)
+      (λ t. tabulate-at pages (bit 0) false p (ltb-true p pages t) ∙ no-bit p)
+      (λ t. getD-past (tabulate pages (bit 0)) false pages p (length-tabulate pages (bit 0)) (ltb-false p pages t))),
+)
 
 -- ── a list of the source's actions, asked of the machine here one after the other ──
 abbrev pub seen : Machine → MachineState

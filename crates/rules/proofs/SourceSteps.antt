@@ -1,12 +1,11 @@
 -- The source, held against the machine: an action of the source is accepted exactly when its step is possible and 01 has nothing
 -- besides against it, and the state after is the one that the step fixes. Runs of accepted actions are executions of the source.
-use mathlib.Core.Path.{_≡_, refl, sym, _∙_, ap, subst, fun-ext}
-use mathlib.Core.Bool.{Bool, true, false, cond}
-use mathlib.Core.List.{List, [], _∷_}
+use mathlib.Core.Path.{_≡_, refl, sym, _∙_, ap, subst}
+use mathlib.Core.Bool.{true}
+use mathlib.Core.List.{List}
 use mathlib.Core.Option.Option.{some}
 use mathlib.Core.Logic.{_↔_}
-use Prim.Native.Nat.{ℕ, _<_}
-use lib.Dec.{eqb}
+use Prim.Native.Nat.{ℕ}
 use lib.ListN.{length, getD}
 use Rattle.numbers.specs.Sizes.{memory-words}
 use Rattle.numbers.specs.Tests.{_and_}
@@ -15,13 +14,12 @@ use Rattle.numbers.specs.Entries.{page-in, readable}
 use Rattle.numbers.proofs.Bools.{isnt-false}
 use Rattle.tables.specs.Table.{live}
 use Rattle.tables.specs.Wants.{W}
-use Rattle.tables.specs.State.{boot}
 use Rattle.tables.specs.Wf.{Wf}
 use Rattle.tables.specs.Views.{MachineState, view}
 use Rattle.tables.specs.declared.state.Tables.{Tables}
 use Rattle.tables.specs.declared.state.Side.the-variants.{Cpu, Iommu}
-use Rattle.rules.specs.Actions.{Op, refusals, effect, touch, touched, accepted, next, does, acted}
-use Rattle.rules.specs.Source.{VmMemOp, HypervisorOp, MachineAction, step, asked, besides, effective-entry, read-observation}
+use Rattle.rules.specs.Actions.{refusals, accepted, next, does, acted}
+use Rattle.rules.specs.Source.{MachineAction, step, asked, besides, effective-entry, read-observation}
 use Rattle.rules.specs.Source.VmMemOp.{Read, Write, HyperCall}
 use Rattle.rules.specs.Source.HypervisorOp.{Map, Unmap, AssignPage, ReclaimPage, SharePage, UnsharePage, ContextSwitch, AddVm, RemoveVm, IommuMap, IommuUnmap, IommuAssignPage, IommuReclaimPage}
 use Rattle.rules.specs.Source.MachineAction.{Vm, Hypervisor}

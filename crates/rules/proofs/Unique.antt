@@ -1,12 +1,12 @@
 -- A step of the source fixes the state after it: two states that it allows are one.
-use mathlib.Core.Path.{_≡_, refl, sym, _∙_, ap, fun-ext}
+use mathlib.Core.Path.{_≡_, sym, _∙_, fun-ext}
 use mathlib.Core.Bool.{Bool}
 use mathlib.Core.List.{List}
 use Prim.Native.Nat.{ℕ}
 use Rattle.tables.specs.Views.{MachineState}
 use Rattle.tables.specs.declared.state.Side.{Side}
 use Rattle.tables.specs.declared.state.Side.the-variants.{Cpu, Iommu}
-use Rattle.rules.specs.Source.{other, same-ownership-as, same-translation-as, unchanged, vm-write-effects, mapping-effects, iommu-page-effects, page-effects, sharing-effects, hv-context-switch-effects, population-effects, VmMemOp, HypervisorOp, MachineAction, step}
+use Rattle.rules.specs.Source.{other, unchanged, vm-write-effects, mapping-effects, iommu-page-effects, page-effects, sharing-effects, hv-context-switch-effects, population-effects, MachineAction, step}
 use Rattle.rules.specs.Source.VmMemOp.{Read, Write, HyperCall}
 use Rattle.rules.specs.Source.HypervisorOp.{Map, Unmap, AssignPage, ReclaimPage, SharePage, UnsharePage, ContextSwitch, AddVm, RemoveVm, IommuMap, IommuUnmap, IommuAssignPage, IommuReclaimPage}
 use Rattle.rules.specs.Source.MachineAction.{Vm, Hypervisor}

@@ -1,26 +1,25 @@
 -- What the source's views of a table become when the table changes: at one place, at one key, by one pair.
-use mathlib.Core.Path.{_≡_, refl, sym, _∙_, ap, subst, fun-ext}
+use mathlib.Core.Path.{_≡_, sym, _∙_, ap, subst, fun-ext}
 use mathlib.Core.Bool.{Bool, true, false, cond}
 use mathlib.Core.List.{List}
-use mathlib.Core.Logic.{_↔_, inl, inr, ⊎-elim}
+use mathlib.Core.Logic.{⊎-elim}
 use Prim.Native.Nat.{ℕ, _<_}
-use native.Mathlib.Omega.{arith}
 use lib.Dec.{eqb}
 use lib.ListN.{length, getD, set}
 use lib.Seq.{getD-set-same, getD-set-other}
-use borrow.Author.Tests.{eqb-true, eq-eqb, eqb-false, ne-eqb}
-use Rattle.numbers.specs.Tests.{_and_, _or_}
-use Rattle.numbers.specs.Entries.{key-of, key-in, page-in, left-in, right-in, pair}
+use borrow.Author.Tests.{eqb-true, eq-eqb, eqb-false}
+use Rattle.numbers.specs.Tests.{_and_}
+use Rattle.numbers.specs.Entries.{key-of, pair}
 use Rattle.numbers.proofs.Bools.{split, clash, cond-true, cond-false, and-l, and-r, and-i, and-no-r, or-e, or-il, or-ir, isnt-i, not-true}
 use Rattle.numbers.proofs.EntryLaws.{pair-live}
-use Rattle.tables.specs.Table.{live, hit, find, has, full, no-room, place, put, wipe}
-use Rattle.tables.specs.Wants.{W, has-key, everywhere, invalidated, shared-by}
+use Rattle.tables.specs.Table.{live, hit, has, full, no-room, place, put, wipe}
+use Rattle.tables.specs.Wants.{W, has-key, invalidated, shared-by}
 use Rattle.tables.specs.State.{guest}
 use Rattle.tables.specs.Views.{entry-at}
-use Rattle.tables.proofs.TableLaws.{Apart, find-none, find-put-same, find-put-other, find-wipe-other, find-place-same, has-place, has-place-other, has-wipe-under, has-wipe-other, live-find}
-use Rattle.tables.proofs.WantLaws.{zero-free, live-pos, has-key-agrees, of-guest-agrees, of-gpage-agrees, to-page-agrees, joins-agrees}
-use Rattle.tables.proofs.ViewLaws.{Keyed, guest-is, gpage-is, unit-is, keyed-or, entry-in, entry-out, turned}
-use Rattle.rules.specs.Source.{update, update-key, remove-targets, edge, with-edge, empty-set}
+use Rattle.tables.proofs.TableLaws.{Apart, find-none, find-put-same, find-put-other, find-wipe-other, find-place-same, has-place-other, has-wipe-under, has-wipe-other, live-find}
+use Rattle.tables.proofs.WantLaws.{zero-free, live-pos, of-guest-agrees, of-gpage-agrees, to-page-agrees, joins-agrees}
+use Rattle.tables.proofs.ViewLaws.{Keyed, guest-is, gpage-is, keyed-or, entry-in, entry-out, turned}
+use Rattle.rules.specs.Source.{update, update-key, remove-targets, edge, with-edge}
 use Rattle.rules.proofs.Accesses.{by-cond}
 use Rattle.rules.proofs.Pairs.{Paired, pair-edge}
 

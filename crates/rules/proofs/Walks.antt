@@ -1,16 +1,16 @@
 -- A map and its TLB stay in good order under map, unmap, fill and drop: once for both sides, over what a guest may reach.
-use mathlib.Core.Path.{_≡_, refl, sym, _∙_, ap}
+use mathlib.Core.Path.{_≡_, sym, _∙_, ap}
 use mathlib.Core.Bool.{Bool, true, false}
 use mathlib.Core.List.{List}
 use Prim.Native.Nat.{ℕ, _<_}
 use native.Mathlib.Omega.{arith}
 use lib.ListN.{getD}
-use Rattle.numbers.specs.Sizes.{units, guests, gpages, pages, accesses}
-use Rattle.numbers.specs.Entries.{key-of, entry, access-in, page-in, key-in, gpage-in, guest-in, unit-in, tag-in, at-unit}
+use Rattle.numbers.specs.Sizes.{units, pages, accesses}
+use Rattle.numbers.specs.Entries.{key-of, entry, page-in, key-in, gpage-in, guest-in, unit-in, at-unit}
 use Rattle.numbers.proofs.Bools.{clash, and-r, and-i, not-true}
-use Rattle.numbers.proofs.EntryLaws.{in-span, counts-fit, access-entry, page-entry, key-entry, gpage-under, guest-under, unit-under, tag-under, access-at-unit, page-at-unit, key-at-unit, gpage-at-unit, guest-at-unit, tag-at-unit, unit-at-unit, at-unit-again, at-unit-own}
+use Rattle.numbers.proofs.EntryLaws.{in-span, counts-fit, access-entry, page-entry, key-entry, gpage-under, guest-under, tag-under, access-at-unit, page-at-unit, key-at-unit, gpage-at-unit, guest-at-unit, tag-at-unit, unit-at-unit, at-unit-again, at-unit-own}
 use Rattle.tables.specs.Table.{find, has, put, wipe, Each}
-use Rattle.tables.specs.Wants.{W, has-key, of-guest, of-gpage, everywhere, invalidated}
+use Rattle.tables.specs.Wants.{W, has-key, everywhere, invalidated}
 use Rattle.tables.specs.Wf.{EntryWf, MapRowWf, WalkWf, home-of}
 use Rattle.tables.proofs.TableLaws.{Apart, each-map, each-both, each-put, each-wipe, each-find, uniq-put, uniq-wipe, find-put-other, find-wipe-other, find-passes}
 use Rattle.tables.proofs.WantLaws.{zero-free, has-key-agrees, of-guest-agrees, of-gpage-agrees, same-entry-is, key-test}

@@ -1,16 +1,15 @@
 -- What stays in good order when one part of the tables is replaced. A clause that reads only other parts is handed on as it stands:
 -- the tables after are a literal whose other parts compute.
-use mathlib.Core.Path.{_≡_, refl, sym, _∙_, ap, subst}
+use mathlib.Core.Path.{_≡_, sym, _∙_, ap, subst}
 use mathlib.Core.Bool.{Bool, true, false}
 use mathlib.Core.List.{List}
-use mathlib.Core.Logic.{_⊎_, inl, inr, ⊎-elim}
+use mathlib.Core.Logic.{inl, inr, ⊎-elim}
 use Prim.Native.Nat.{ℕ}
 use native.Mathlib.Omega.{arith}
 use lib.Dec.{eqb}
 use lib.ListN.{getD, set, length, length-set}
 use borrow.Author.Tests.{eqb-true, eq-eqb}
-use Rattle.numbers.specs.Tests.{_or_}
-use Rattle.numbers.specs.Entries.{guest-in, page-in, left-in, right-in}
+use Rattle.numbers.specs.Entries.{guest-in, page-in}
 use Rattle.numbers.proofs.Bools.{or-e, or-il, or-ir}
 use Rattle.tables.specs.Table.{has, Each, Uniq}
 use Rattle.tables.specs.Wants.{W, of-guest, ends-at, shared-with, same-pair}
@@ -93,8 +92,11 @@ module _ {m : Tables} (h : Wf m) where
 
         side : (d : Side) → Each W (λ r. page-in r ≡ p → getD (held-on d m) p nobody ≡ guest (guest-in r) → x ≡ guest (guest-in r)) (map-of d m) →
             WalkWf (m .present) (reach d (set (held-on d m) p x) (m .pairs) (m .region)) (map-of d m) (tlb-of d m)
-        side d k = walk-mono (h .walks-wf d) (each-map W (λ r l f here ok. (here, reach-held d (held-on d m) (m .pairs) (m .region) p x _ _
-            (λ e s. f e (ap (λ (n : ℕ). getD (held-on d m) n nobody) (sym e) ∙ s)) ok)) k)
+        side d k = walk-mono (h .walks-wf d) (each-map W (λ r l f here ok. (
+          here,
+          reach-held d (held-on d m) (m .pairs) (m .region) p x _ _
+              (λ e s. f e (ap (λ (n : ℕ). getD (held-on d m) n nobody) (sym e) ∙ s)) ok,
+        )) k)
 
         walks : (d : Side) → Each W (λ r. page-in r ≡ p → getD (held-on d m) p nobody ≡ guest (guest-in r) → x ≡ guest (guest-in r)) (map-of d m) →
             (e : Side) → WalkWf (m .present) (may-reach e (with-held d m (set (held-on d m) p x))) (map-of e m) (tlb-of e m)

@@ -1,32 +1,30 @@
 -- An accepted action keeps good order: every kind, by the part of the tables that it replaces. Nothing is asked of the next state; it
 -- follows from the refusals that did not apply.
-use mathlib.Core.Path.{_≡_, refl, sym, _∙_, ap, subst}
+use mathlib.Core.Path.{_≡_, refl, sym, _∙_, subst}
 use mathlib.Core.Bool.{Bool, true, false}
 use mathlib.Core.List.{List}
-use mathlib.Core.Logic.{⊎-elim, inl, inr}
-use Prim.Native.Nat.{ℕ, _<_}
+use mathlib.Core.Logic.{⊎-elim}
+use Prim.Native.Nat.{ℕ}
 use native.Mathlib.Omega.{arith}
 use lib.Dec.{eqb}
 use lib.ListN.{getD}
-use borrow.Author.Tests.{eqb-true, eq-eqb, eqb-false, leb-false}
-use Rattle.numbers.specs.Sizes.{guests, units, pages, gpages, accesses}
-use Rattle.numbers.specs.Tests.{_and_, _or_, isnt}
-use Rattle.numbers.specs.Entries.{guest-in, page-in, left-in, right-in, pair}
+use borrow.Author.Tests.{eqb-true, eqb-false}
+use Rattle.numbers.specs.Sizes.{guests, units, gpages}
+use Rattle.numbers.specs.Tests.{_or_}
+use Rattle.numbers.specs.Entries.{guest-in, page-in, pair}
 use Rattle.numbers.specs.Frames.{off}
-use Rattle.numbers.proofs.Bools.{split, clash, cond-true, cond-false, and-l, and-r, and-i, or-e, or-l, or-r, or-il, or-ir, isnt-true, isnt-false, isnt-i, not-true, not-false}
-use Rattle.numbers.proofs.EntryLaws.{counts-fit, access-pair, page-pair, left-pair, right-pair, tag-pair}
+use Rattle.numbers.proofs.Bools.{split, clash, and-l, and-r, and-i, or-l, or-r, or-il, or-ir, isnt-true, isnt-false, isnt-i, not-true, not-false}
 use Rattle.tables.specs.Table.{has, place, wipe, Each}
-use Rattle.tables.specs.Wants.{W, of-guest, to-page, maps, ends-at, shared-by, shared-with, same-pair}
-use Rattle.tables.specs.State.{nobody, hypervisor, guest, is-present, in-region, holder-of, dma-of, by-side, map-of, held-on, reach, may-reach}
-use Rattle.tables.specs.Wf.{PageWf, CpuWf, PairWf, Wf, wf}
+use Rattle.tables.specs.Wants.{W, of-guest, to-page, maps, ends-at, shared-by, shared-with}
+use Rattle.tables.specs.State.{nobody, hypervisor, guest, holder-of, dma-of, map-of, held-on, reach}
+use Rattle.tables.specs.Wf.{CpuWf, Wf}
 use Rattle.tables.specs.declared.state.Tables.{Tables}
 use Rattle.tables.specs.declared.state.Side.{Side}
 use Rattle.tables.specs.declared.state.Side.the-variants.{Cpu, Iommu}
-use Rattle.tables.proofs.TableLaws.{each-all, each-map, each-both, each-place, each-wipe, uniq-place, uniq-wipe, length-put, length-place, length-wipe, none-each, has-place, find-wipe-other, has-wipe-other, has-ext}
-use Rattle.tables.proofs.WantLaws.{zero-free, of-guest-agrees, to-page-agrees, ends-at-agrees, joins-agrees, same-pair-is, same-pair-agrees}
+use Rattle.tables.proofs.TableLaws.{each-all, each-map, each-both, each-place, uniq-place, uniq-wipe, length-put, length-place, length-wipe, none-each, has-place, has-wipe-other, has-ext}
+use Rattle.tables.proofs.WantLaws.{zero-free, of-guest-agrees, to-page-agrees, ends-at-agrees, joins-agrees, same-pair-is}
 use Rattle.tables.proofs.ViewLaws.{Keyed}
-use Rattle.tables.proofs.WfAgrees.{wf-sound, wf-complete}
-use Rattle.rules.specs.Actions.{Op, refusals, effect, holds, leans, named, another, accepted, next}
+use Rattle.rules.specs.Actions.{Op, refusals, effect, holds, leans, accepted}
 use Rattle.rules.specs.Actions.Op.{Read, Write, HyperCall, AddVm, RemoveVm, AssignPage, ReclaimPage, SharePage, UnsharePage, Map, Unmap, ContextSwitch, Idle, Fill, Drop, IommuAssignPage, IommuReclaimPage}
 use Rattle.rules.proofs.Lowest.{Clear, accepted-clear}
 use Rattle.rules.proofs.Places.{named-agrees, another-agrees}
@@ -171,7 +169,7 @@ module _ {m : Tables} (h : Wf m) where
       (λ u e. absurd (named-agrees g (m .running) .0 (or-r _ _ t₇) u e))
       (each-map W (λ q _ n e. clash e n) (none-each W (ends-at g) (m .pairs) (or-l _ _ t₇)))
       (elim [
-        Cpu ↦ each-map W (λ x _ n e. clash e n) (none-each W (of-guest g) (m .map) (or-l _ _ t₂))
+        | Cpu ↦ each-map W (λ x _ n e. clash e n) (none-each W (of-guest g) (m .map) (or-l _ _ t₂))
         | Iommu ↦ each-map W (λ x _ n e. clash e n) (none-each W (of-guest g) (m .«io_map») (or-l _ _ t₃))
       ])
 

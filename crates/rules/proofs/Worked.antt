@@ -13,18 +13,17 @@ use Rattle.numbers.specs.Search.{first, upto}
 use Rattle.numbers.specs.Addresses.{page-of, offset-of, word-of}
 use Rattle.numbers.specs.Entries.{key-of, entry, access-in, page-in, key-in, gpage-in, guest-in, unit-in, tag-in, at-unit, readable, writable, pair, right-in, left-in, pair-tag-in}
 use Rattle.numbers.specs.Frames.{big, decode, kinds, row-of, uses, stray, beyond}
-use Rattle.numbers.specs.declared.frames.Action.{Action}
 use Rattle.tables.specs.Table.{all, find, has, full, place, seat, put, wipe, each, uniq}
 use Rattle.tables.specs.Wants.{has-key, of-guest, of-gpage, to-page, ends-at, joins}
-use Rattle.tables.specs.State.{guest, hypervisor, reach, effective-entry, bare, bit, tabulate, boot}
+use Rattle.tables.specs.State.{guest, reach, effective-entry, bare, bit, tabulate, boot}
 use Rattle.tables.specs.Wf.{vm-ok, page-ok, entry-ok, map-row-ok, pair-ok, cached, pages-ok, cpus-ok, walk-ok, sized, in-order, wf}
 use Rattle.tables.specs.declared.state.Tables.{Tables}
 use Rattle.tables.specs.declared.state.Side.{Side}
 use Rattle.tables.specs.declared.state.Side.the-variants.{Cpu, Iommu}
-use Rattle.rules.specs.Parts.{with-present, with-running, with-pairs, with-held, with-walk}
+use Rattle.rules.specs.Parts.{with-running, with-pairs, with-held, with-walk}
 use Rattle.rules.specs.Actions.{Op, another, named, leans, cleared, clear-page, refusals, next, does, acted}
-use Rattle.rules.specs.Actions.Op.{Read, Write, HyperCall, AddVm, RemoveVm, AssignPage, ReclaimPage, SharePage, UnsharePage, Map, Unmap, ContextSwitch, Idle, Fill, Drop, IommuAssignPage, IommuReclaimPage}
-use Rattle.rules.specs.Calls.{_then_, act, after, answer, accepted-of, written, run, Machine, Ran}
+use Rattle.rules.specs.Actions.Op.{Read, Write, HyperCall, AddVm, RemoveVm, AssignPage, ReclaimPage, SharePage, UnsharePage, Map, Unmap, ContextSwitch, Fill, Drop, IommuAssignPage, IommuReclaimPage}
+use Rattle.rules.specs.Calls.{_then_, act, after, answer, accepted-of, written, run}
 
 -- ── how examples are put down ──
 all-true : List Bool → Bool

@@ -6,7 +6,7 @@ use mathlib.Core.List.{List}
 use lib.Dec.{eqb, ltb}
 use lib.ListN.{length, take, drop, getD, set}
 use Rattle.numbers.specs.Sizes.{frame-bytes, memory-words}
-use Rattle.numbers.specs.Tests.{_and_, _or_, isnt}
+use Rattle.numbers.specs.Tests.{_or_, isnt}
 use Rattle.numbers.specs.Rules.{Rules, least}
 use Rattle.numbers.specs.Rules.Rules.{accept, _⇒_∣_}
 use Rattle.numbers.specs.Frames.{decode, frame-rules}

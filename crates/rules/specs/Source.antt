@@ -13,7 +13,7 @@ use mathlib.Core.Logic.{_⊎_}
 use lib.Dec.{eqb, ltb}
 use lib.ListN.{length, getD, set}
 use Rattle.numbers.specs.Sizes.{guests, units, pages, gpages, accesses}
-use Rattle.numbers.specs.Tests.{_and_, _or_, isnt}
+use Rattle.numbers.specs.Tests.{_and_, _or_}
 use Rattle.numbers.specs.Addresses.{page-of, offset-of, word-of}
 use Rattle.numbers.specs.Entries.{key-of, entry, at-unit, page-in, readable, writable}
 use Rattle.tables.specs.Table.{live, no-room}

@@ -1,5 +1,5 @@
 -- Boot gives good order, whatever the masks; so do empty tables.
-use mathlib.Core.Path.{_≡_, sym, _∙_}
+use mathlib.Core.Path.{_≡_}
 use mathlib.Core.Bool.{Bool, true, false}
 use mathlib.Core.List.{List}
 use Prim.Native.Nat.{ℕ, zero, suc, _<_}
@@ -11,7 +11,7 @@ use Rattle.numbers.specs.Sizes.{pages, units, map-room, tlb-room, pair-room}
 use Rattle.numbers.proofs.Bools.{split, clash, isnt-no}
 use Rattle.tables.specs.Table.{Shape, Each, Uniq}
 use Rattle.tables.specs.Wants.{W}
-use Rattle.tables.specs.State.{nobody, bit, pool, tabulate, bare, empty, boot, holder-of, dma-of, in-region, running-on, guest}
+use Rattle.tables.specs.State.{nobody, bit, pool, tabulate, bare, empty, boot, holder-of, dma-of, in-region, running-on}
 use Rattle.tables.specs.Wf.{Wf, PageWf, WalkWf, Sized, wf}
 use Rattle.tables.specs.declared.state.Tables.{Tables}
 use Rattle.tables.specs.declared.state.Side.the-variants.{Cpu, Iommu}

@@ -14,11 +14,11 @@ use Rattle.tables.specs.Table.{live, find, has}
 use Rattle.tables.specs.Wants.{W, has-key, shared-by}
 use Rattle.tables.specs.State.{hypervisor, guest, is-present, map-of, tlb-of, may-reach}
 use Rattle.tables.specs.Wf.{Wf, PairWf, MapRowWf}
-use Rattle.tables.specs.Views.{SourceWf, MachineState, view, entry-at, entitled, in-s2-map, in-tlb}
+use Rattle.tables.specs.Views.{SourceWf, view, entry-at, entitled, in-s2-map, in-tlb}
 use Rattle.tables.specs.declared.state.Tables.{Tables}
 use Rattle.tables.specs.declared.state.Side.{Side}
-use Rattle.tables.proofs.TableLaws.{find-passes, each-find, live-find}
-use Rattle.tables.proofs.WantLaws.{Ends, zero-free, live-pos, joins-agrees}
+use Rattle.tables.proofs.TableLaws.{find-passes, each-find}
+use Rattle.tables.proofs.WantLaws.{Ends, live-pos, joins-agrees}
 use Rattle.tables.proofs.ViewLaws.{Keyed, guest-is, gpage-is, entry-in, entry-keyed, entry-there, turned, reach-agrees}
 
 some-unit : 0 < units

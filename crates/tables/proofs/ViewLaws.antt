@@ -2,14 +2,14 @@
 use mathlib.Core.Path.{_≡_, refl, sym, _∙_, ap, subst}
 use mathlib.Core.Bool.{Bool, true, false}
 use mathlib.Core.List.{List}
-use mathlib.Core.Logic.{_↔_, _⊎_, inl, inr, ⊎-elim}
+use mathlib.Core.Logic.{_↔_, inl, inr, ⊎-elim}
 use Prim.Native.Nat.{ℕ, _<_}
-use lib.Dec.{eqb, ltb}
+use lib.Dec.{ltb}
 use borrow.Author.Tests.{ltb-true, lt-ltb}
 use Rattle.numbers.specs.Sizes.{guests, units, gpages}
-use Rattle.numbers.specs.Tests.{_and_, _or_}
-use Rattle.numbers.specs.Entries.{key-of, key-in, guest-in, gpage-in, unit-in, left-in, right-in}
-use Rattle.numbers.proofs.Bools.{split, clash, cond-true, cond-false, and-l, and-r, and-i, or-e, or-il, or-ir, isnt-no, not-true, bool-ext}
+use Rattle.numbers.specs.Tests.{_and_}
+use Rattle.numbers.specs.Entries.{key-of, guest-in, gpage-in, unit-in, left-in, right-in}
+use Rattle.numbers.proofs.Bools.{split, clash, cond-false, and-l, and-r, and-i, or-e, or-il, or-ir, isnt-no, not-true, bool-ext}
 use Rattle.numbers.proofs.EntryLaws.{counts-fit, guest-under, gpage-under, unit-under, key-own}
 use Rattle.tables.specs.Table.{live, find, has, Each, Uniq}
 use Rattle.tables.specs.Wants.{W, has-key, joins, shared-by, shared-with, same-entry}

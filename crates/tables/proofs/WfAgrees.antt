@@ -12,10 +12,10 @@ use Rattle.numbers.specs.Search.{upto}
 use Rattle.numbers.specs.Entries.{at-unit}
 use Rattle.numbers.proofs.Bools.{split, and-l, and-r, and-i}
 use Rattle.numbers.proofs.SearchLaws.{upto-at, upto-i}
-use Rattle.tables.specs.Table.{Each, each, Uniq}
+use Rattle.tables.specs.Table.{Each, each}
 use Rattle.tables.specs.Wants.{W, same-entry, same-pair}
 use Rattle.tables.specs.State.{nobody, holder-of, dma-of, in-region, running-on, map-of, tlb-of, held-on, may-reach}
-use Rattle.tables.specs.Wf.{EntryWf, MapRowWf, WalkWf, PageWf, Sized, Wf, home-of, vm-ok, page-ok, pages-ok, cpus-ok, cached, walk-ok, in-order, wf}
+use Rattle.tables.specs.Wf.{WalkWf, PageWf, Sized, Wf, home-of, vm-ok, page-ok, pages-ok, cpus-ok, cached, walk-ok, in-order, wf}
 use Rattle.tables.specs.declared.state.Tables.{Tables}
 use Rattle.tables.specs.declared.state.Side.{Side}
 use Rattle.tables.specs.declared.state.Side.the-variants.{Cpu, Iommu}

@@ -14,7 +14,7 @@ use Rattle.numbers.specs.Search.{upto}
 use Rattle.numbers.specs.Entries.{key-of, access-in, page-in, key-in, gpage-in, guest-in, unit-in, tag-in, at-unit, left-in, right-in, pair-tag-in}
 use Rattle.tables.specs.Table.{find, Each, each, Uniq, uniq}
 use Rattle.tables.specs.Wants.{W, has-key, same-entry, same-pair}
-use Rattle.tables.specs.State.{nobody, hypervisor, guest, a-guest, guest-of, is-present, in-region, holder-of, dma-of, running-on, map-of, tlb-of, reach, may-reach}
+use Rattle.tables.specs.State.{nobody, hypervisor, guest, a-guest, guest-of, in-region, holder-of, dma-of, running-on, map-of, tlb-of, reach, may-reach}
 use Rattle.tables.specs.declared.search.Want.{Want}
 use Rattle.tables.specs.declared.search.Want.the-variants.{Key, Pair}
 use Rattle.tables.specs.declared.state.Tables.{Tables}
