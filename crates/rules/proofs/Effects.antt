@@ -159,7 +159,8 @@ module _ {m : Tables} (h : Wf m) (ws : List ℕ) where
       (λ k n. no-guest nobody k (omega arith) ∙ sym (guests-differ (dma-of m p) g k (eqb-true _ _ (isnt-false _ (c 11))) n))
 
   -- ── pairs ──
-  shared : (ps : List ℕ) (edges : ℕ → ℕ → ℕ → Bool) → view (with-pairs m ps) ws .shared-pages ≡ edges → sharing-effects (view (with-pairs m ps) ws) (view m ws) edges
+  shared : (ps : List ℕ) (edges : ℕ → ℕ → ℕ → Bool) → view (with-pairs m ps) ws .shared-pages ≡ edges →
+      sharing-effects (view (with-pairs m ps) ws) (view m ws) edges
   shared ps edges e = record {
     same-identity = refl;
     hypervisor-owned = refl;

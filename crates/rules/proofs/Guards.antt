@@ -17,8 +17,8 @@ use Rattle.numbers.specs.Entries.{key-of, page-in, readable, writable}
 use Rattle.numbers.specs.Frames.{off}
 use Rattle.numbers.proofs.Bools.{split, clash, cond-true, and-l, and-r, and-i, and-no-r, or-e, or-l, or-r, or-no, isnt-true, isnt-false, isnt-i, isnt-no, not-true}
 use Rattle.numbers.proofs.AddressLaws.{offset-below, word-below}
-use Rattle.tables.specs.Table.{live, no-room}
-use Rattle.tables.specs.Wants.{W, has-key, shared-by}
+use Rattle.tables.specs.Table.{live, has, no-room}
+use Rattle.tables.specs.Wants.{W, has-key, to-page, shared-by, shared-with}
 use Rattle.tables.specs.State.{hypervisor, guest, is-present, in-region, holder-of, dma-of, running-on, map-of, tlb-of, may-reach}
 use Rattle.tables.specs.Wf.{Wf}
 use Rattle.tables.specs.Views.{view, entry-at, in-s2-map}
@@ -153,12 +153,17 @@ module _ {m : Tables} (h : Wf m) (ws : List ℕ) (lw : length ws ≡ memory-word
   )
 
   -- ── map and unmap, on either side ──
+  -- the page of a pair is in range
+  pair-below : (k : ℕ → Bool) (p : ℕ) → ((x : ℕ) → k x ≡ true → to-page p x ≡ true) → has W k (m .pairs) ≡ true → p < pages
+  pair-below k p f t = subst (λ (n : ℕ). n < pages)
+      (sym (to-page-agrees p _ .0 (f _ (and-r _ _ (find-passes W k (m .pairs) t))))) (each-find W k (h .sharing-wf) t .page)
+
   -- a page that a guest may reach is in range
   reach-below : (d : Side) (g p : ℕ) → may-reach d m g p ≡ true → p < pages
   unfolding Rattle.tables.specs.State.reach
   reach-below Cpu g p e = ⊎-elim
       (λ z. let w : holder-of m p ≡ guest g = eqb-true _ _ z in holder-below h p (omega arith))
-      (λ z. subst (λ (n : ℕ). n < pages) (sym (to-page-agrees p _ .0 (and-l _ _ (and-r _ _ (find-passes W _ (m .pairs) z))))) (each-find W _ (h .sharing-wf) z .page))
+      (λ z. pair-below (shared-with g p) p (λ x e. and-l _ _ e) z)
       (or-e _ _ e)
   reach-below Iommu g p e = ⊎-elim
       (λ z. let w : dma-of m p ≡ guest g = eqb-true _ _ z in dma-below h p (omega arith))
@@ -268,7 +273,7 @@ module _ {m : Tables} (h : Wf m) (ws : List ℕ) (lw : length ws ≡ memory-word
     λ q.
         let w = q .wf in
         let lp = w .sharing-2 l r p (q .shared) in let rp = w .sharing-3 l r p (q .shared) in
-        let pp = subst (λ (n : ℕ). n < pages) (sym (to-page-agrees p _ .0 (and-l _ _ (and-r _ _ (find-passes W _ (m .pairs) (q .shared)))))) (each-find W _ (h .sharing-wf) (q .shared) .page) in
+        let pp = pair-below (shared-by l r p) p (λ x e. and-l _ _ e) (q .shared) in
         accepted-passes m (UnsharePage l r p) .1
         (and-i (isnt-i (or-no (in-range _ _ (present-below h l lp)) (or-no (in-range _ _ (present-below h r rp)) (in-range _ _ pp))))
         (and-i (isnt-i (ne-eqb _ _ (w .sharing-1 l r p (q .shared))))
@@ -279,7 +284,8 @@ module _ {m : Tables} (h : Wf m) (ws : List ℕ) (lw : length ws ≡ memory-word
         (and-i (isnt-i (isnt-no (q .shared))) refl))))),
   )
     where
-      owner : (x g p : ℕ) → g ≡ x → (v : ℕ) → in-s2-map Cpu (view m ws) g v → page-in (entry-at (m .map) 0 g v) ≡ p → leans m x p ≡ false → holds m g p ≡ true
+      owner : (x g p : ℕ) → g ≡ x → (v : ℕ) → in-s2-map Cpu (view m ws) g v → page-in (entry-at (m .map) 0 g v) ≡ p →
+          leans m x p ≡ false → holds m g p ≡ true
       owner x g p e v t s n = leans-agrees h ws g p .0 (subst (λ (k : ℕ). leans m k p ≡ false) (sym e) n) v t s
 
   pub reclaim-accepted : (g p : ℕ) → accepted (refusals m (ReclaimPage g p)) ≡ true ↔ hv-reclaim-page-guards (view m ws) g p
@@ -317,7 +323,8 @@ module _ {m : Tables} (h : Wf m) (ws : List ℕ) (lw : length ws ≡ memory-word
         accepted-passes m (IommuReclaimPage g p) .1
         (and-i (isnt-i (or-no (in-range _ _ (present-below h g (q .present))) (in-range _ _ (dma-below h p (omega arith)))))
         (and-i (isnt-i (isnt-no (q .present))) (and-i (isnt-i (isnt-no (q .owned)))
-        (and-i (isnt-i (isnt-no (and-i (isnt-i (unmapped-agrees h ws Iommu p .1 (q .quiescent .0))) (isnt-i (uncached-agrees h ws Iommu p .1 (q .quiescent .1)))))) refl)))),
+        (and-i (isnt-i (isnt-no (and-i
+        (isnt-i (unmapped-agrees h ws Iommu p .1 (q .quiescent .0))) (isnt-i (uncached-agrees h ws Iommu p .1 (q .quiescent .1)))))) refl)))),
   )
 
   -- no other guest holds the page
@@ -361,7 +368,8 @@ module _ {m : Tables} (h : Wf m) (ws : List ℕ) (lw : length ws ≡ memory-word
   remove-accepted g = (
     λ q.
         let c = accepted-clear m (RemoveVm g) q in
-        let t₁ = or-r _ _ (c 13) in let t₂ = or-r _ _ t₁ in let t₃ = or-r _ _ t₂ in let t₄ = or-r _ _ t₃ in let t₅ = or-r _ _ t₄ in let t₆ = or-r _ _ t₅ in
+        let t₁ = or-r _ _ (c 13) in let t₂ = or-r _ _ t₁ in let t₃ = or-r _ _ t₂ in
+        let t₄ = or-r _ _ t₃ in let t₅ = or-r _ _ t₄ in let t₆ = or-r _ _ t₅ in
         record {
           wf = source-wf m ws h;
           present = isnt-false _ (c 6);

@@ -18,3 +18,4 @@ pub mod Unique
 pub mod SourceSteps
 pub mod SourceRuns
 pub mod Worked
+pub mod Asking

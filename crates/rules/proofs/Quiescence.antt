@@ -46,7 +46,8 @@ module _ {m : Tables} (h : Wf m) (ws : List ℕ) where
   test-page p x = (λ n e. clash (to-page-agrees p x .1 (sym e)) n, λ f. not-true _ (λ t. f (sym (to-page-agrees p x .0 t))))
 
   -- no entry of the map leads to the page
-  pub unmapped-agrees : (d : Side) (p : ℕ) → has W (to-page p) (map-of d m) ≡ false ↔ ((g v : ℕ) → in-s2-map d (view m ws) g v → page-in (entry-at (map-of d m) 0 g v) ≡ p → ⊥)
+  pub unmapped-agrees : (d : Side) (p : ℕ) →
+      has W (to-page p) (map-of d m) ≡ false ↔ ((g v : ℕ) → in-s2-map d (view m ws) g v → page-in (entry-at (map-of d m) 0 g v) ≡ p → ⊥)
   unmapped-agrees d p = (
     λ n g v l. test-page p _ .0 (none-maps d (to-page p) .0 n g v l),
     λ f. none-maps d (to-page p) .1 (λ g v l. test-page p _ .1 (f g v l)),

@@ -35,7 +35,8 @@ viewed-after m a ws = view (acted m (asked a) ws .tables) (acted m (asked a) ws 
 
 module _ {m : Tables} (h : Wf m) (ws : List ℕ) (lw : length ws ≡ memory-words) where
   -- ── an accepted action is a step ──
-  moves : (a : MachineAction) → accepted (refusals m (asked a)) ≡ true → Clear (refusals m (asked a)) → step (view m ws) (viewed m (asked a) ws) a × besides m a
+  moves : (a : MachineAction) → accepted (refusals m (asked a)) ≡ true → Clear (refusals m (asked a)) →
+      step (view m ws) (viewed m (asked a) ws) a × besides m a
   moves (Vm g (Read u a)) e c = let q = read-accepted h ws lw g u a .0 e in ((q .0, (q .1, read-does m ws Cpu g u a)), tt)
   moves (Vm g (Write u a w)) e c = let q = write-accepted h ws lw g u a w .0 e in ((q .0, (q .1, write-does h ws g u a w c)), tt)
   moves (Vm g (HyperCall u w)) e c = let q = hypercall-accepted h ws lw g u w .0 e in ((q .0, (q .1, hypercall-does m ws g u w)), tt)
@@ -81,8 +82,12 @@ module _ {m : Tables} (h : Wf m) (ws : List ℕ) (lw : length ws ≡ memory-word
   pub step-exactly : (a : MachineAction) (s : MachineState) →
       (step (view m ws) s a × besides m a) ↔ ((accepted (refusals m (asked a)) ≡ true) × (s ≡ viewed-after m a ws))
   step-exactly a s = (
-    λ q. let e = possible a s (q .0) (q .1) in (e, step-unique (view m ws) s (viewed m (asked a) ws) a (q .0) (moves a e (accepted-clear m (asked a) e) .0) ∙ sym (after-accepted a e)),
-    λ q. (subst (λ (t : MachineState). step (view m ws) t a) (sym (q .1 ∙ after-accepted a (q .0))) (moves a (q .0) (accepted-clear m (asked a) (q .0)) .0), moves a (q .0) (accepted-clear m (asked a) (q .0)) .1),
+    λ q.
+        let e = possible a s (q .0) (q .1) in let mine = moves a e (accepted-clear m (asked a) e) in
+        (e, step-unique (view m ws) s (viewed m (asked a) ws) a (q .0) (mine .0) ∙ sym (after-accepted a e)),
+    λ q.
+        let mine = moves a (q .0) (accepted-clear m (asked a) (q .0)) in
+        (subst (λ (t : MachineState). step (view m ws) t a) (sym (q .1 ∙ after-accepted a (q .0))) (mine .0), mine .1),
   )
 
   -- ── what a read hands back is what the source lets the guest observe ──

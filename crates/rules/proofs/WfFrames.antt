@@ -43,9 +43,9 @@ reach-pairs held pairs pairs′ region g q f e = ⊎-elim (λ k. or-il _ k) f (o
 
 module _ {m : Tables} (h : Wf m) where
   -- ── one side's map and TLB ──
-  module _ (d : Side) (map tlb : List ℕ) (lm : length map ≡ length (map-of d m)) (lt : length tlb ≡ length (tlb-of d m)) (w : WalkWf (m .present) (may-reach d m) map tlb) where
-    pub keeps-walk : Wf (with-walk d m map tlb)
-    keeps-walk = record {
+  module _ (d : Side) (map tlb : List ℕ) where
+    pub keeps-walk : length map ≡ length (map-of d m) → length tlb ≡ length (tlb-of d m) → WalkWf (m .present) (may-reach d m) map tlb → Wf (with-walk d m map tlb)
+    keeps-walk lm lt w = record {
       sizes = sizes d lm lt;
       pages-wf = h .pages-wf;
       cpus-wf = h .cpus-wf;
@@ -107,7 +107,8 @@ module _ {m : Tables} (h : Wf m) where
 
   -- ── the pairs: an entry that rested on a pair still rests on one, or on a hold ──
   pub keeps-pairs : (ps : List ℕ) → length ps ≡ length (m .pairs) → Each W (PairWf (m .present)) ps → Uniq W same-pair ps →
-      Each W (λ r. has W (shared-with (guest-in r) (page-in r)) (m .pairs) ≡ true → may-reach Cpu (with-pairs m ps) (guest-in r) (page-in r) ≡ true) (m .map) →
+      Each W (λ r. has W (shared-with (guest-in r) (page-in r)) (m .pairs) ≡ true →
+      may-reach Cpu (with-pairs m ps) (guest-in r) (page-in r) ≡ true) (m .map) →
       Wf (with-pairs m ps)
   unfolding reach
   keeps-pairs ps n ok keys rows = record {

@@ -22,7 +22,10 @@ length-cleared (suc n) i ws = length-set (cleared n i ws) (i + n) 0 ∙ length-c
 set-zero : (ws : List ℕ) (i : ℕ) → getD (set ws i 0) i 0 ≡ 0
 set-zero ws i = split (ltb i (length ws))
     (λ l. getD-set-same ws i 0 0 (ltb-true _ _ l))
-    (λ l. let n : length ws ≤ i = ltb-false _ _ l in let k : length (set ws i 0) ≡ length ws = length-set ws i 0 in List·getD-eq-default (set ws i 0) 0 (omega arith))
+    (λ l.
+    let n : length ws ≤ i = ltb-false _ _ l in
+    let k : length (set ws i 0) ≡ length ws = length-set ws i 0 in
+    List·getD-eq-default (set ws i 0) 0 (omega arith))
 
 cleared-zero : (n i : ℕ) (ws : List ℕ) (j : ℕ) → i ≤ j → j < i + n → getD (cleared n i ws) j 0 ≡ 0
 unfolding cleared

@@ -171,7 +171,9 @@ clauses =
 
 -- a second pair excuses nothing: guest 1 holds page 5, pairs 1-2 and 2-3 stand on it, guest 2 maps it; the tables are in good order
 second-pair : Tables
-second-pair = with-map Cpu (with-pairs (done two (AddVm 3 ∷ AssignPage 1 5 ∷ [])) (set (set (replicate pair-room 0) 0 (pair 1 2 5 0)) 1 (pair 2 3 5 0))) (entry 0 2 0 5 1)
+second-pair = with-map Cpu
+    (with-pairs (done two (AddVm 3 ∷ AssignPage 1 5 ∷ [])) (set (set (replicate pair-room 0) 0 (pair 1 2 5 0)) 1 (pair 2 3 5 0)))
+    (entry 0 2 0 5 1)
 
 excuses : List Bool
 excuses = wf second-pair ∷ gets second-pair (UnsharePage 1 2 5) 13 ∷ gets second-pair (UnsharePage 3 2 5) 13 ∷ []

@@ -35,7 +35,9 @@ cached-agrees : (map : List ℕ) (y : ℕ) → cached map y ≡ true ↔ (home-o
 unfolding cached
 cached-agrees map y = (eqb-true _ _, eq-eqb _ _)
 
-walk-agrees : (d : Side) (m : Tables) → walk-ok d (map-of d m) (tlb-of d m) (m .present) (held-on d m) (m .pairs) (m .region) ≡ true ↔ WalkWf (m .present) (may-reach d m) (map-of d m) (tlb-of d m)
+walk-agrees : (d : Side) (m : Tables) →
+    walk-ok d (map-of d m) (tlb-of d m) (m .present) (held-on d m) (m .pairs) (m .region) ≡ true ↔
+    WalkWf (m .present) (may-reach d m) (map-of d m) (tlb-of d m)
 unfolding walk-ok
 walk-agrees d m = (
   λ e.

@@ -50,7 +50,8 @@ pub entry-agrees : (w : ℕ) → entry-ok w ≡ true ↔ EntryWf w
 unfolding entry-ok
 entry-agrees w = (λ e. search (and-l, and-r, eqb-true, ltb-true) depth 12, λ h. search (and-i, eq-eqb, lt-ltb) depth 12)
 
-pub map-row-agrees : (d : Side) (m : Tables) (x : ℕ) → map-row-ok d (m .present) (held-on d m) (m .pairs) (m .region) x ≡ true ↔ MapRowWf (m .present) (may-reach d m) x
+pub map-row-agrees : (d : Side) (m : Tables) (x : ℕ) →
+    map-row-ok d (m .present) (held-on d m) (m .pairs) (m .region) x ≡ true ↔ MapRowWf (m .present) (may-reach d m) x
 unfolding map-row-ok
 map-row-agrees d m x = (
   λ e. record {
@@ -118,7 +119,8 @@ page-agrees present h d shared = (
         region-not-iommu-owned = λ g p. not-true _ (λ r. clash (and-i r (or-ir _ (guest-is d g p))) apart);
       },
   λ w. and-i
-      (split (eqb h hypervisor) (λ z. or-il _ z) (λ z. or-ir _ (vm-agrees present h .1 (record { active-vm-wf = w .ownership-wf; no-hypervisor-runs = eqb-false h hypervisor z }))))
+      (split (eqb h hypervisor) (λ z. or-il _ z) (λ z. or-ir _ (vm-agrees present h .1
+      (record { active-vm-wf = w .ownership-wf; no-hypervisor-runs = eqb-false h hypervisor z }))))
       (and-i (vm-agrees present d .1 (record { active-vm-wf = w .iommu-ownership-wf; no-hypervisor-runs = w .no-hypervisor-dma }))
       (and-i
       (isnt-i (not-true _ (λ z. ⊎-elim
