@@ -1,5 +1,12 @@
 -- The actions of 01: of each its refusals in order, what it does to the tables, and what it does with the words of memory.
 -- Refusals and tables are made from the tables and the action alone: no word of memory can reach them.
+--
+-- Of a table of words (`Table` in crate `tables`; W says that 0 is a free place): `has` says whether a live row passes a test, `find`
+-- gives the first that does, `no-room` says that none does and every place is live, `place` puts a row at the lowest free place, `put`
+-- over the row that passes or else there, and `wipe` sets every row that passes to 0. `invalidated g v` is the wipe of a guest's
+-- entries for a guest page on every unit.
+--
+-- Numbers 1 and 2 are a call's and 3 a frame's: they stand in front of these (`Calls`).
 use Prim.Native.Nat.{ℕ, zero, suc, _+_}
 use mathlib.Core.Bool.{Bool, true, false, cond}
 use mathlib.Core.List.{List}
@@ -78,6 +85,7 @@ leans m g p = has W (maps g p) (m .map) and isnt (holds m g p)
 
 -- ══ refusals: the first whose condition holds is the answer ══
 abbrev pub refusals : Tables → Op → Rules
+-- 01 Read, 04 DmaRead
 refusals m (Read d g u a) =
     off g guests or off u units or off a guest-words ⇒ 4 ∣
     absent m g ⇒ 6 ∣
@@ -85,6 +93,7 @@ refusals m (Read d g u a) =
     nothing (seen d m g u a) ⇒ 9 ∣
     isnt (can-read (seen d m g u a)) ⇒ 10 ∣
     accept
+-- 02 Write, 05 DmaWrite
 refusals m (Write d g u a w) =
     off g guests or off u units or off a guest-words ⇒ 4 ∣
     absent m g ⇒ 6 ∣
@@ -92,15 +101,18 @@ refusals m (Write d g u a w) =
     nothing (seen d m g u a) ⇒ 9 ∣
     isnt (can-write (seen d m g u a)) ⇒ 10 ∣
     accept
+-- 03 HyperCall
 refusals m (HyperCall g u w) =
     off g guests or off u units ⇒ 4 ∣
     absent m g ⇒ 6 ∣
     elsewhere Cpu m u g ⇒ 8 ∣
     accept
+-- 10 AddVm
 refusals m (AddVm g) =
     off g guests ⇒ 4 ∣
     is-present m g ⇒ 7 ∣
     accept
+-- 11 RemoveVm
 refusals m (RemoveVm g) =
     off g guests ⇒ 4 ∣
     absent m g ⇒ 6 ∣
@@ -109,18 +121,21 @@ refusals m (RemoveVm g) =
     or has W (of-guest g) (m .tlb) or has W (of-guest g) (m .«io_tlb»)
     or has W (ends-at g) (m .pairs) or named (guest g) (m .running) ⇒ 13 ∣
     accept
+-- 12 AssignPage
 refusals m (AssignPage g p) =
     off g guests or off p pages ⇒ 4 ∣
     absent m g ⇒ 6 ∣
     isnt (eqb (holder-of m p) hypervisor) ⇒ 11 ∣
     in-region m p or another g (dma-of m p) ⇒ 12 ∣
     accept
+-- 13 ReclaimPage
 refusals m (ReclaimPage g p) =
     off g guests or off p pages ⇒ 4 ∣
     absent m g ⇒ 6 ∣
     isnt (holds m g p) ⇒ 11 ∣
     isnt (page-is-quiescent (m .map) (m .tlb) (m .pairs) p) ⇒ 13 ∣
     accept
+-- 14 SharePage
 refusals m (SharePage l r p) =
     off l guests or off r guests or off p pages ⇒ 4 ∣
     eqb l r ⇒ 5 ∣
@@ -128,6 +143,7 @@ refusals m (SharePage l r p) =
     isnt (holds m l p) ⇒ 11 ∣
     no-room W (shared-by l r p) (m .pairs) ⇒ 15 ∣
     accept
+-- 15 UnsharePage
 refusals m (UnsharePage l r p) =
     off l guests or off r guests or off p pages ⇒ 4 ∣
     eqb l r ⇒ 5 ∣
@@ -135,40 +151,48 @@ refusals m (UnsharePage l r p) =
     has W (shared-by l r p) (m .pairs) and (leans m l p or leans m r p) ⇒ 13 ∣
     isnt (has W (shared-by l r p) (m .pairs)) ⇒ 14 ∣
     accept
+-- 16 Map, 22 IommuMap
 refusals m (Map d g v p x) =
     off g guests or off v gpages or off p pages or off x accesses ⇒ 4 ∣
     absent m g ⇒ 6 ∣
     isnt (may-reach d m g p) ⇒ 11 ∣
     no-room W (has-key (key-of 0 g v)) (map-of d m) ⇒ 15 ∣
     accept
+-- 17 Unmap, 23 IommuUnmap
 refusals m (Unmap d g v) =
     off g guests or off v gpages ⇒ 4 ∣
     absent m g ⇒ 6 ∣
     isnt (has W (has-key (key-of 0 g v)) (map-of d m)) ⇒ 14 ∣
     accept
+-- 18 ContextSwitch
 refusals m (ContextSwitch g u) =
     off g guests or off u units ⇒ 4 ∣
     absent m g ⇒ 6 ∣
     accept
+-- 19 Idle
 refusals m (Idle u) =
     off u units ⇒ 4 ∣
     accept
+-- 1a Fill, 24 IommuFill
 refusals m (Fill d g u v) =
     off g guests or off u units or off v gpages ⇒ 4 ∣
     absent m g ⇒ 6 ∣
     isnt (has W (has-key (key-of 0 g v)) (map-of d m)) ⇒ 9 ∣
     no-room W (has-key (key-of u g v)) (tlb-of d m) ⇒ 15 ∣
     accept
+-- 1b Drop, 25 IommuDrop
 refusals m (Drop d g u v) =
     off g guests or off u units or off v gpages ⇒ 4 ∣
     absent m g ⇒ 6 ∣
     isnt (has W (has-key (key-of u g v)) (tlb-of d m)) ⇒ 14 ∣
     accept
+-- 20 IommuAssignPage
 refusals m (IommuAssignPage g p) =
     off g guests or off p pages ⇒ 4 ∣
     absent m g ⇒ 6 ∣
     in-region m p or another g (dma-of m p) or another g (holder-of m p) ⇒ 12 ∣
     accept
+-- 21 IommuReclaimPage
 refusals m (IommuReclaimPage g p) =
     off g guests or off p pages ⇒ 4 ∣
     absent m g ⇒ 6 ∣
