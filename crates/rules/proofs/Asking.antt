@@ -6,10 +6,9 @@ use Prim.Native.Nat.{ℕ}
 use lib.Dec.{eqb}
 use Rattle.numbers.specs.Tests.{_and_, _or_, isnt}
 use Rattle.numbers.specs.Search.{first}
-use Rattle.numbers.specs.Frames.{kinds, row-of, uses, stray, beyond, off}
+use Rattle.numbers.specs.Frames.{kinds, row-of, uses, stray, beyond}
 use Rattle.numbers.specs.declared.frames.Action.{Action}
 use Rattle.tables.specs.declared.state.Tables.{Tables}
-use Rattle.tables.specs.declared.state.Side.{Side}
 use Rattle.tables.specs.declared.state.Side.the-variants.{Cpu, Iommu}
 use Rattle.rules.specs.Actions.{Op, refusals}
 use Rattle.rules.specs.Actions.Op.{Read, Write, HyperCall, AddVm, RemoveVm, AssignPage, ReclaimPage, SharePage, UnsharePage, Map, Unmap, ContextSwitch, Idle, Fill, Drop, IommuAssignPage, IommuReclaimPage}

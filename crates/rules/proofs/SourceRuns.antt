@@ -1,6 +1,6 @@
 -- Boot is the source's `init`, and runs of accepted actions are executions of the source.
 use mathlib.Core.Path.{_≡_, refl, sym, _∙_, ap, fun-ext}
-use mathlib.Core.Bool.{Bool, true, false, cond}
+use mathlib.Core.Bool.{Bool, true, false}
 use mathlib.Core.List.{List, [], _∷_}
 use Prim.Native.Nat.{ℕ, zero, suc, _^_}
 use native.Mathlib.Nat.{zero-div}
@@ -13,16 +13,16 @@ use Rattle.tables.specs.Table.{has}
 use Rattle.tables.specs.Wants.{W, shared-by}
 use Rattle.tables.specs.State.{nobody, is-present, bit, tabulate, bare, boot}
 use Rattle.tables.specs.Wf.{Wf}
-use Rattle.tables.specs.Views.{MachineState, view, entry-at}
+use Rattle.tables.specs.Views.{view, entry-at}
 use Rattle.tables.specs.declared.state.Side.the-variants.{Cpu, Iommu}
 use Rattle.tables.proofs.TableLaws.{has-nil, has-skip, find-none}
 use Rattle.tables.proofs.WantLaws.{zero-free}
 use Rattle.tables.proofs.LoopLaws.{getD-past, Filled, length-tabulate, tabulate-at}
 use Rattle.tables.proofs.ViewLaws.{keyed-or, entry-in, entry-out}
 use Rattle.tables.proofs.BootWf.{boot-wf}
-use Rattle.rules.specs.Actions.{refusals, touch, accepted, next, does, acted}
+use Rattle.rules.specs.Actions.{touch, next, does}
 use Rattle.rules.specs.Calls.{Machine}
-use Rattle.rules.specs.Source.{MachineAction, step, asked, init, init-empty, is-execution, last, reachable}
+use Rattle.rules.specs.Source.{MachineAction, step, asked, init, init-empty, is-execution, last, reachable, seen, moved, taken-up, moved-by, accepted-acts, visited}
 use Rattle.rules.proofs.Words.{length-touched}
 use Rattle.rules.proofs.WfKept.{wf-kept}
 use Rattle.rules.proofs.SourceSteps.{step-exactly}
@@ -78,44 +78,19 @@ boot-init hv ws = (
       (λ t. getD-past (tabulate pages (bit 0)) false pages p (length-tabulate pages (bit 0)) (ltb-false p pages t))),
 )
 
--- ── a list of the source's actions, asked of the machine here one after the other ──
-abbrev pub seen : Machine → MachineState
-seen s = view (s .tables) (s .memory)
-
-pub moved : Machine → MachineAction → Machine
-moved s a = record {
-  tables = acted (s .tables) (asked a) (s .memory) .tables;
-  memory = acted (s .tables) (asked a) (s .memory) .memory;
-}
-
-abbrev taken : Machine → MachineAction → Bool
-taken s a = accepted (refusals (s .tables) (asked a))
-
-pub moved-by : Machine → List MachineAction → Machine
-moved-by s [] = s
-moved-by s (a ∷ acts) = moved-by (moved s a) acts
-
--- those that are accepted, and the states after them
-pub accepted-acts : Machine → List MachineAction → List MachineAction
-accepted-acts s [] = []
-accepted-acts s (a ∷ acts) = cond (taken s a) (a ∷ accepted-acts (moved s a) acts) (accepted-acts s acts)
-
-pub visited : Machine → List MachineAction → List MachineState
-visited s [] = []
-visited s (a ∷ acts) = cond (taken s a) (seen (moved s a) ∷ visited (moved s a) acts) (visited s acts)
-
+-- ── lists ──
 -- a refused action leaves the machine as it is
-stays : (s : Machine) (a : MachineAction) → taken s a ≡ false → moved s a ≡ s
+stays : (s : Machine) (a : MachineAction) → taken-up s a ≡ false → moved s a ≡ s
 unfolding next does moved
 stays s a e = rw e
 
 -- an accepted one keeps good order and the length of memory
-keeps : (s : Machine) (a : MachineAction) → taken s a ≡ true → Wf (s .tables) → length (s .memory) ≡ memory-words →
+keeps : (s : Machine) (a : MachineAction) → taken-up s a ≡ true → Wf (s .tables) → length (s .memory) ≡ memory-words →
     Wf (moved s a .tables) × (length (moved s a .memory) ≡ memory-words)
 unfolding next does moved
 keeps s a e h l = rw e (wf-kept (s .tables) (asked a) e h, length-touched (touch (s .tables) (asked a)) (s .memory) ∙ l)
 
-moved-step : (s : Machine) (a : MachineAction) → taken s a ≡ true → Wf (s .tables) → length (s .memory) ≡ memory-words → step (seen s) (seen (moved s a)) a
+moved-step : (s : Machine) (a : MachineAction) → taken-up s a ≡ true → Wf (s .tables) → length (s .memory) ≡ memory-words → step (seen s) (seen (moved s a)) a
 unfolding moved
 moved-step s a e h l = step-exactly h (s .memory) l a _ .1 (e, refl) .0
 
@@ -124,14 +99,14 @@ pub execution : (acts : List MachineAction) (s : Machine) → Wf (s .tables) →
     is-execution (seen s ∷ visited s acts) (accepted-acts s acts)
 unfolding visited accepted-acts
 execution [] s h l = is-execution.here
-execution (a ∷ acts) s h l = split (taken s a)
+execution (a ∷ acts) s h l = split (taken-up s a)
     (λ e. let k = keeps s a e h l in rw e (is-execution.more (moved-step s a e h l) (execution acts (moved s a) (k .0) (k .1))))
     (λ e. rw e (execution acts s h l))
 
 last-visited : (acts : List MachineAction) (s : Machine) → last (seen s) (visited s acts) ≡ seen (moved-by s acts)
 unfolding visited moved-by
 last-visited [] s = refl
-last-visited (a ∷ acts) s = split (taken s a)
+last-visited (a ∷ acts) s = split (taken-up s a)
     (λ e. rw e (last-visited acts (moved s a)))
     (λ e. rw e (last-visited acts s ∙ ap (λ (t : Machine). seen (moved-by t acts)) (sym (stays s a e))))
 

@@ -19,7 +19,7 @@ use Rattle.tables.specs.Views.{MachineState, view}
 use Rattle.tables.specs.declared.state.Tables.{Tables}
 use Rattle.tables.specs.declared.state.Side.the-variants.{Cpu, Iommu}
 use Rattle.rules.specs.Actions.{refusals, accepted, next, does, acted}
-use Rattle.rules.specs.Source.{MachineAction, step, asked, besides, effective-entry, read-observation}
+use Rattle.rules.specs.Source.{MachineAction, step, asked, besides, viewed-after, effective-entry, read-observation}
 use Rattle.rules.specs.Source.VmMemOp.{Read, Write, HyperCall}
 use Rattle.rules.specs.Source.HypervisorOp.{Map, Unmap, AssignPage, ReclaimPage, SharePage, UnsharePage, ContextSwitch, AddVm, RemoveVm, IommuMap, IommuUnmap, IommuAssignPage, IommuReclaimPage}
 use Rattle.rules.specs.Source.MachineAction.{Vm, Hypervisor}
@@ -28,10 +28,6 @@ use Rattle.rules.proofs.Guards.{observed-word, read-accepted, write-acc
 use Rattle.rules.proofs.Accesses.{access-keyed, entries-alike, nothing-is, word-at-is}
 use Rattle.rules.proofs.Effects.{viewed, read-does, write-does, hypercall-does, map-does, unmap-does, assign-does, reclaim-does, share-does, unshare-does, context-switch-does, add-does, remove-does, iommu-assign-does, iommu-assign-memory, iommu-reclaim-does}
 use Rattle.rules.proofs.Unique.{step-unique}
-
--- the state after an action, accepted or not
-abbrev pub viewed-after : Tables → MachineAction → List ℕ → MachineState
-viewed-after m a ws = view (acted m (asked a) ws .tables) (acted m (asked a) ws .memory)
 
 module _ {m : Tables} (h : Wf m) (ws : List ℕ) (lw : length ws ≡ memory-words) where
   -- ── an accepted action is a step ──

@@ -129,6 +129,10 @@ with-pair m q = with-pairs m (set (replicate pair-room 0) 0 q)
 held : Side → Tables → ℕ → Tables
 held d m g = with-held d m (tabulate pages (λ p. cond (eqb p 5) (guest g) 0))
 
+-- guest 1 holds page 5, shares it with guest 2 and maps it at as many guest pages as there is room for; CPU 0 has as many of them
+full-map : Tables
+full-map = with-walk Cpu (with-pair (held Cpu two 1) (pair 1 2 5 0)) (tabulate map-room (λ v. entry 0 1 v 5 1)) (tabulate tlb-room (λ v. entry 0 1 v 5 1))
+
 clauses : List Bool
 clauses =
     -- RemoveVm, by each of its eight clauses alone
@@ -161,10 +165,12 @@ clauses =
     -- what maps the page but shares nothing is not in the way
     ∷ gets (with-map Cpu (held Cpu two 1) (entry 0 2 0 5 1)) (UnsharePage 1 2 5) 14
     -- no room: every place live and the key or the pair absent
-    ∷ gets (with-walk Cpu (held Cpu two 1) (tabulate map-room (λ v. entry 0 1 v 5 1)) (replicate tlb-room 0)) (Map Cpu 1 map-room 5 1) 15
-    ∷ gets (with-walk Cpu (held Cpu two 1) (tabulate map-room (λ v. entry 0 1 v 5 1)) (replicate tlb-room 0)) (Map Cpu 1 (map-room - 1) 5 1) 0
-    ∷ gets (with-walk Cpu (held Cpu two 1) (tabulate map-room (λ v. entry 0 1 v 5 1)) (tabulate tlb-room (λ v. entry 0 1 v 5 1))) (Fill Cpu 1 0 tlb-room) 15
-    ∷ gets (with-walk Cpu (held Cpu two 1) (tabulate map-room (λ v. entry 0 1 v 5 1)) (tabulate tlb-room (λ v. entry 0 1 v 5 1))) (Fill Cpu 1 0 (tlb-room - 1)) 0
+    ∷ gets full-map (Map Cpu 2 0 5 1) 15
+    ∷ gets full-map (Map Cpu 1 0 5 3) 0
+    ∷ gets full-map (Fill Cpu 1 0 tlb-room) 15
+    ∷ gets full-map (Fill Cpu 1 0 0) 0
+    ∷ gets (done full-map (Unmap Cpu 1 7 ∷ [])) (Map Cpu 2 0 5 1) 0
+    ∷ gets (done full-map (Drop Cpu 1 0 7 ∷ [])) (Fill Cpu 1 0 tlb-room) 0
     ∷ gets (with-pairs (held Cpu two 1) (tabulate pair-room (λ p. pair 1 2 (6 + p) 0))) (SharePage 1 2 5) 15
     ∷ gets (with-pairs (held Cpu two 1) (set (tabulate pair-room (λ p. pair 1 2 (6 + p) 0)) 0 (pair 2 1 5 0))) (SharePage 1 2 5) 0
     ∷ []
@@ -199,5 +205,5 @@ lists =
     ∷ []
 
 worked : all-true (numbers ++ clauses ++ excuses ++ lists) ≡ true
-unfolding all-true same done memory gets frame calls two five numbers with-map with-tlb with-pair held clauses second-pair excuses frames ran lists guests units pages gpages accesses page-words access-span page-span gpage-span guest-span unit-span map-room tlb-room pair-room frame-bytes _and_ _or_ isnt least first upto page-of offset-of word-of key-of entry access-in page-in key-in gpage-in guest-in unit-in tag-in at-unit readable writable pair right-in left-in pair-tag-in big decode kinds row-of uses stray beyond all find has full place seat put wipe each uniq has-key of-guest of-gpage to-page ends-at joins reach effective-entry bare bit tabulate boot vm-ok page-ok entry-ok map-row-ok pair-ok cached pages-ok cpus-ok walk-ok sized in-order wf another named leans cleared clear-page next does _then_ act after answer accepted-of written run
+unfolding all-true same done memory gets frame calls two five numbers with-map with-tlb with-pair held full-map clauses second-pair excuses frames ran lists guests units pages gpages accesses page-words access-span page-span gpage-span guest-span unit-span map-room tlb-room pair-room frame-bytes _and_ _or_ isnt least first upto page-of offset-of word-of key-of entry access-in page-in key-in gpage-in guest-in unit-in tag-in at-unit readable writable pair right-in left-in pair-tag-in big decode kinds row-of uses stray beyond all find has full place seat put wipe each uniq has-key of-guest of-gpage to-page ends-at joins reach effective-entry bare bit tabulate boot vm-ok page-ok entry-ok map-row-ok pair-ok cached pages-ok cpus-ok walk-ok sized in-order wf another named leans cleared clear-page next does _then_ act after answer accepted-of written run
 worked = refl

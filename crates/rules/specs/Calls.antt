@@ -155,7 +155,7 @@ listed odd f n s numbers words =
     let own = least (run-rules odd n s numbers words) in
     cond (eqb own 0) (ran f n s numbers words) (refused own s numbers words)
 
--- the frames in lent bytes: no multiple of a frame's bytes is odd
+-- the frames in lent bytes; bytes that are no multiple of a frame's are odd
 abbrev pub frame-at : List ℕ → ℕ → Action
 frame-at bytes i = decode (take frame-bytes (drop (i * frame-bytes) bytes))
 

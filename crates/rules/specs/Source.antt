@@ -19,11 +19,12 @@ use Rattle.numbers.specs.Entries.{key-of, entry, at-unit, page-in, readable, wr
 use Rattle.tables.specs.Table.{live, no-room}
 use Rattle.tables.specs.Wants.{W, has-key, shared-by}
 use Rattle.tables.specs.State.{nobody, guest, in-region, dma-of}
-use Rattle.tables.specs.Views.{MachineState, SourceWf, in-s2-map, in-tlb, cpu-runs, entitled}
+use Rattle.tables.specs.Views.{MachineState, view, SourceWf, in-s2-map, in-tlb, cpu-runs, entitled}
 use Rattle.tables.specs.declared.state.Tables.{Tables}
 use Rattle.tables.specs.declared.state.Side.{Side}
 use Rattle.tables.specs.declared.state.Side.the-variants.{Cpu, Iommu}
-use Rattle.rules.specs.Actions.{Op, another, clear-page}
+use Rattle.rules.specs.Actions.{Op, another, refusals, clear-page, accepted, acted}
+use Rattle.rules.specs.Calls.{Machine}
 
 -- ══ sets and maps ══
 -- a map with another value at a key; a set is the map of its test
@@ -459,3 +460,33 @@ besides m (Hypervisor (RemoveVm vm)) = Unit {0}
 besides m (Hypervisor (IommuUnmap vm gpa)) = Unit {0}
 besides m (Hypervisor (IommuReclaimPage vm page)) = Unit {0}
 besides m (Vm vm op) = Unit {0}
+
+-- the state after it, accepted or not
+abbrev pub viewed-after : Tables → MachineAction → List ℕ → MachineState
+viewed-after m a ws = view (acted m (asked a) ws .tables) (acted m (asked a) ws .memory)
+
+-- ══ a list of them, asked one after the other ══
+abbrev pub seen : Machine → MachineState
+seen s = view (s .tables) (s .memory)
+
+abbrev pub taken-up : Machine → MachineAction → Bool
+taken-up s a = accepted (refusals (s .tables) (asked a))
+
+unfoldable pub moved : Machine → MachineAction → Machine
+moved s a = record {
+  tables = acted (s .tables) (asked a) (s .memory) .tables;
+  memory = acted (s .tables) (asked a) (s .memory) .memory;
+}
+
+unfoldable pub moved-by : Machine → List MachineAction → Machine
+moved-by s [] = s
+moved-by s (a ∷ acts) = moved-by (moved s a) acts
+
+-- those that are accepted, and the states after them
+unfoldable pub accepted-acts : Machine → List MachineAction → List MachineAction
+accepted-acts s [] = []
+accepted-acts s (a ∷ acts) = cond (taken-up s a) (a ∷ accepted-acts (moved s a) acts) (accepted-acts s acts)
+
+unfoldable pub visited : Machine → List MachineAction → List MachineState
+visited s [] = []
+visited s (a ∷ acts) = cond (taken-up s a) (seen (moved s a) ∷ visited (moved s a) acts) (visited s acts)

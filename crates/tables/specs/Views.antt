@@ -19,7 +19,8 @@ use Rattle.tables.specs.declared.state.Side.the-variants.{Cpu, Iommu}
 
 -- `s2-map` at Cpu is the source's `s2_map` and its `hw_s2map`, at Iommu its `iommu_s2_map` and its `iommu_hw_s2map`: one stored map
 -- each, so that `sync` and `iommu_sync` have nothing left to say. `tlb` at Cpu is its `tlb`, at Iommu its `iommu_tlb`. A guest that
--- owns nothing has the empty set: `vm_owned` and `iommu_owned` have their domain by themselves.
+-- owns nothing has the empty set: `vm_owned` and `iommu_owned` have their domain by themselves. `active-vm` gives who runs as a holder's
+-- number, nobody where the source's map has no key.
 pub record MachineState : Type 0 where
   pub all-vms : ℕ → Bool
   pub hypervisor-owned : ℕ → Bool
