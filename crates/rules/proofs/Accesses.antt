@@ -16,12 +16,13 @@ use Rattle.tables.specs.Table.{live, find}
 use Rattle.tables.specs.Wants.{W, has-key}
 use Rattle.tables.specs.State.{map-of, tlb-of, effective-entry, found, nothing, can-read, can-write}
 use Rattle.tables.specs.Wf.{Wf}
-use Rattle.tables.specs.Views.{view}
+use Rattle.tables.specs.Views.{view, entry-at}
 use Rattle.tables.specs.declared.state.Tables.{Tables}
 use Rattle.tables.specs.declared.state.Side.{Side}
 use Rattle.tables.proofs.TableLaws.{each-find, live-find}
 use Rattle.tables.proofs.WantLaws.{zero-free, live-pos}
 use Rattle.tables.proofs.ViewLaws.{Keyed, entry-in}
+use Rattle.tables.proofs.SourceWf.{source-wf}
 use Rattle.rules.specs.Actions.{word-at}
 use Rattle.rules.proofs.Ranges.{below}
 use Rattle.rules.proofs.Walks.{some-unit}
@@ -96,3 +97,10 @@ can-write-is e = split (live W e) (λ l. rw l (sym (true-and (writable e)))) (λ
 
 pub word-at-is : (e a : ℕ) → live W e ≡ true → word-at (found e) a ≡ word-of (page-in e) (offset-of a)
 word-at-is e a l = rw l
+
+-- ── in good order a TLB shows nothing that the map does not: every translation is the map's ──
+pub translation-is-the-map's : (d : Side) (m : Tables) (ws : List ℕ) (u g v : ℕ) → Wf m →
+    Rattle.rules.specs.Source.effective-entry d (view m ws) u g v ≡ view m ws .s2-map d g v
+translation-is-the-map's d m ws u g v h = by-cond (λ e. e ≡ view m ws .s2-map d g v) (live W (entry-at (tlb-of d m) u g v)) _ _
+    (λ t. source-wf m ws h .tlb-safe-2 d u g v t)
+    (λ t. refl)

@@ -1,6 +1,6 @@
--- What only the definitions force, each by itself: a raster is kept, words stay, no second pair excuses, every unit is dropped, and
--- where entries stand.
-use mathlib.Core.Path.{_≡_, sym, _∙_, ap}
+-- What only the definitions force, each by itself: a raster is kept, words stay, no second pair excuses, every unit is dropped, where
+-- entries stand, and that Fill and Drop change no translation.
+use mathlib.Core.Path.{_≡_, refl, sym, _∙_, ap}
 use mathlib.Core.Bool.{Bool, true, false}
 use mathlib.Core.List.{List}
 use Prim.Native.Nat.{ℕ, _<_, _≤_}
@@ -21,13 +21,19 @@ use Rattle.tables.specs.Table.{has, hit, put, wipe, cleared, place}
 use Rattle.tables.specs.Wants.{W, has-key, everywhere, shared-by, invalidated}
 use Rattle.tables.specs.State.{guest, is-present, holder-of, dma-of, map-of, tlb-of}
 use Rattle.tables.specs.Wf.{Wf}
+use Rattle.tables.specs.Views.{view, entry-at}
 use Rattle.tables.specs.declared.state.Tables.{Tables}
 use Rattle.tables.specs.declared.state.Side.{Side}
+use Rattle.tables.specs.declared.state.Side.the-variants.{Cpu, Iommu}
 use Rattle.tables.proofs.TableLaws.{each-none, each-map, each-all, each-wipe, put-over, put-new, wipe-at, length-wipe}
 use Rattle.tables.proofs.WantLaws.{zero-free, of-guest-agrees, of-gpage-agrees}
 use Rattle.tables.proofs.ViewLaws.{Keyed, guest-is, gpage-is}
 use Rattle.rules.specs.Actions.{absent, holds, dma-holds, leans, refusals, effect, clear-page, next, does, accepted, acted}
-use Rattle.rules.specs.Actions.Op.{AssignPage, ReclaimPage, SharePage, UnsharePage, Map, Unmap, Fill, IommuAssignPage}
+use Rattle.rules.specs.Actions.Op.{AssignPage, ReclaimPage, SharePage, UnsharePage, Map, Unmap, Fill, Drop, IommuAssignPage}
+use Rattle.rules.specs.Parts.{with-walk}
+use Rattle.rules.specs.Source.{effective-entry}
+use Rattle.rules.proofs.Accesses.{translation-is-the-map's}
+use Rattle.rules.proofs.WfKept.{wf-kept}
 use Rattle.rules.proofs.PartLaws.{map-with, tlb-with}
 use Rattle.rules.proofs.Lowest.{when}
 use Rattle.rules.proofs.Ranges.{in-range, present-below, dma-below}
@@ -137,3 +143,24 @@ module _ (k : ℕ → Bool) (t : List ℕ) (i : ℕ) (inside : i < length t) (mi
       let l : i ≤ first (W .free) (wipe W k t) = ltb-false _ _ e in
       let f : first (W .free) (wipe W k t) ≤ i = first-lowest (W .free) (wipe W k t) 0 i (omega arith) (rw freed-zero zero-free) in
       omega arith))
+
+-- ── Fill and Drop change no translation, on either side, of anybody ──
+same-maps : (d e : Side) (m : Tables) (tlb : List ℕ) → map-of e (with-walk d m (map-of d m) tlb) ≡ map-of e m
+same-maps Cpu Cpu m tlb = refl
+same-maps Cpu Iommu m tlb = refl
+same-maps Iommu Cpu m tlb = refl
+same-maps Iommu Iommu m tlb = refl
+
+module _ (m : Tables) (h : Wf m) (ws : List ℕ) (d e : Side) (g u v : ℕ) (t k w : ℕ) where
+  unseen : (tlb : List ℕ) → Wf (with-walk d m (map-of d m) tlb) →
+      effective-entry e (view (with-walk d m (map-of d m) tlb) ws) t k w ≡ effective-entry e (view m ws) t k w
+  unseen tlb after = translation-is-the-map's e (with-walk d m (map-of d m) tlb) ws t k w after
+      ∙ ap (λ (map : List ℕ). entry-at map 0 k w) (same-maps d e m tlb) ∙ sym (translation-is-the-map's e m ws t k w h)
+
+  pub fill-unseen : accepted (refusals m (Fill d g u v)) ≡ true →
+      effective-entry e (view (effect m (Fill d g u v)) ws) t k w ≡ effective-entry e (view m ws) t k w
+  fill-unseen q = unseen _ (wf-kept m (Fill d g u v) q h)
+
+  pub drop-unseen : accepted (refusals m (Drop d g u v)) ≡ true →
+      effective-entry e (view (effect m (Drop d g u v)) ws) t k w ≡ effective-entry e (view m ws) t k w
+  drop-unseen q = unseen _ (wf-kept m (Drop d g u v) q h)
