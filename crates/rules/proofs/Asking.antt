@@ -1,12 +1,18 @@
 -- Every action has a frame that asks for it, and the frame check knows what the action's own rules know: such a frame never gets 3, and
 -- gets 4 exactly where the rules give 4.
-use mathlib.Core.Path.{_≡_, refl, sym, ap}
-use mathlib.Core.Bool.{Bool, true, false}
-use Prim.Native.Nat.{ℕ}
-use lib.Dec.{eqb}
+use mathlib.Core.Path.{_≡_, refl, sym, _∙_, ap, subst}
+use mathlib.Core.List.{List, [], _∷_}
+use native.Mathlib.Omega.{arith}
+use lib.ListN.{length, getD, List·getD-eq-default}
+use borrow.Author.Tests.{eqb-true, eq-eqb, ltb-true, ltb-false}
+use mathlib.Core.Bool.{Bool, true, false, cond}
+use Prim.Native.Nat.{ℕ, zero, suc, _/_, _^_, _<_}
+use lib.Dec.{eqb, ltb}
 use Rattle.numbers.specs.Tests.{_and_, _or_, isnt}
 use Rattle.numbers.specs.Search.{first}
-use Rattle.numbers.specs.Frames.{kinds, row-of, uses, stray, beyond}
+use Rattle.numbers.specs.Frames.{kinds, of-kind, row-of, uses, stray, beyond}
+use Rattle.numbers.proofs.Bools.{split, clash, and-i, or-l, or-r, isnt-i}
+use Rattle.numbers.proofs.SearchLaws.{first-passes}
 use Rattle.numbers.specs.declared.frames.Action.{Action}
 use Rattle.tables.specs.declared.state.Tables.{Tables}
 use Rattle.tables.specs.declared.state.Side.the-variants.{Cpu, Iommu}
@@ -94,3 +100,136 @@ asked-by-a-frame m (Drop Cpu g u v) = search (false-or, or-false)
 asked-by-a-frame m (Drop Iommu g u v) = search (false-or, or-false)
 asked-by-a-frame m (IommuAssignPage g p) = search false-or
 asked-by-a-frame m (IommuReclaimPage g p) = search false-or
+
+-- ── and every frame of a known kind whose unused fields are zero is the frame of what it asks for ──
+-- an action with the fields that its row does not use at zero: the flags are those of the table of kinds
+abbrev used-only : ℕ → Action → Action
+used-only r a = record {
+  kind = a .kind;
+  guest = cond (uses r (2 ^ 0)) (a .guest) 0;
+  second = cond (uses r (2 ^ 1) or uses r (2 ^ 2)) (a .second) 0;
+  access = cond (uses r (2 ^ 3)) (a .access) 0;
+  address = cond (uses r (2 ^ 4) or uses r (2 ^ 5)) (a .address) 0;
+  page = cond (uses r (2 ^ 6)) (a .page) 0;
+  word = cond (uses r (2 ^ 7)) (a .word) 0;
+}
+
+kept : (used : Bool) (n : ℕ) → (isnt used and isnt (eqb n 0)) ≡ false → cond used n 0 ≡ n
+kept true n e = refl
+kept false n e = split (eqb n 0) (λ z. sym (eqb-true n 0 z)) (λ z. clash (and-i (isnt-i refl) (isnt-i z)) e)
+
+no-stray : (r : ℕ) (a : Action) → stray r a ≡ false → used-only r a ≡ a
+unfolding stray
+no-stray r a e =
+    let e₁ = or-r _ _ e in let e₂ = or-r _ _ e₁ in let e₃ = or-r _ _ e₂ in let e₄ = or-r _ _ e₃ in
+    λ i. record {
+      kind = a .kind;
+      guest = kept (uses r (2 ^ 0)) (a .guest) (or-l _ _ e) i;
+      second = kept (uses r (2 ^ 1) or uses r (2 ^ 2)) (a .second) (or-l _ _ e₁) i;
+      access = kept (uses r (2 ^ 3)) (a .access) (or-l _ _ e₂) i;
+      address = kept (uses r (2 ^ 4) or uses r (2 ^ 5)) (a .address) (or-l _ _ e₃) i;
+      page = kept (uses r (2 ^ 6)) (a .page) (or-l _ _ e₄) i;
+      word = kept (uses r (2 ^ 7)) (a .word) (or-r _ _ e₄) i;
+    }
+
+-- a statement of the kind of each row
+Rows : (ℕ → Type 0) → List ℕ → Type 0
+Rows P [] = Unit {0}
+Rows P (r ∷ t) = P (r / 256) × Rows P t
+
+row-there : (P : ℕ → Type 0) (t : List ℕ) (i : ℕ) → Rows P t → i < length t → P (getD t i 0 / 256)
+unfolding Rows
+row-there P [] i f h = absurd (omega arith)
+row-there P (r ∷ t) zero f h = f .0
+row-there P (r ∷ t) (suc i) f h = row-there P t i (f .1) (omega arith)
+
+-- a known kind is the kind of a row
+by-row : (P : ℕ → Type 0) → Rows P kinds → (k : ℕ) → eqb (row-of k) 0 ≡ false → P k
+unfolding row-of
+by-row P f k n = split (ltb (first (of-kind k) kinds) (length kinds))
+    (λ l. subst P (sym (eqb-true _ _ (first-passes (of-kind k) kinds 0 (ltb-true _ _ l)))) (row-there P kinds _ f (ltb-true _ _ l)))
+    (λ l. clash (eq-eqb _ _ (List·getD-eq-default kinds 0 (ltb-false _ _ l))) n)
+
+Own : ℕ → Type 0
+Own k = (g s x a p w : ℕ) → frame-of (op-of (fields k g s x a p w)) ≡ used-only (row-of k) (fields k g s x a p w)
+
+own-rows : Rows Own kinds
+unfolding Rows Own row-of kinds first uses _or_
+own-rows = (
+  λ g s x a p w. refl,
+  (
+    λ g s x a p w. refl,
+    (
+      λ g s x a p w. refl,
+      (
+        λ g s x a p w. refl,
+        (
+          λ g s x a p w. refl,
+          (
+            λ g s x a p w. refl,
+            (
+              λ g s x a p w. refl,
+              (
+                λ g s x a p w. refl,
+                (
+                  λ g s x a p w. refl,
+                  (
+                    λ g s x a p w. refl,
+                    (
+                      λ g s x a p w. refl,
+                      (
+                        λ g s x a p w. refl,
+                        (
+                          λ g s x a p w. refl,
+                          (
+                            λ g s x a p w. refl,
+                            (
+                              λ g s x a p w. refl,
+                              (
+                                λ g s x a p w. refl,
+                                (
+                                  λ g s x a p w. refl,
+                                  (
+                                    λ g s x a p w. refl,
+                                    (
+                                      λ g s x a p w. refl,
+                                      (
+                                        λ g s x a p w. refl,
+                                        (
+                                          λ g s x a p w. refl,
+                                          (
+                                            λ g s x a p w. refl,
+                                            (λ g s x a p w. refl, tt),
+                                          ),
+                                        ),
+                                      ),
+                                    ),
+                                  ),
+                                ),
+                              ),
+                            ),
+                          ),
+                        ),
+                      ),
+                    ),
+                  ),
+                ),
+              ),
+            ),
+          ),
+        ),
+      ),
+    ),
+  ),
+)
+
+pub frame-of-asked : (a : Action) → eqb (row-of (a .kind)) 0 ≡ false → stray (row-of (a .kind)) a ≡ false → frame-of (op-of a) ≡ a
+unfolding Own
+frame-of-asked a known shaped =
+    by-row Own own-rows (a .kind) known (a .guest) (a .second) (a .access) (a .address) (a .page) (a .word) ∙ no-stray (row-of (a .kind)) a shaped
+
+-- so 4 is one test, whoever asks: the frame check's over the table of kinds, and the action's own
+pub one-range-test : (m : Tables) (a : Action) → eqb (row-of (a .kind)) 0 ≡ false → stray (row-of (a .kind)) a ≡ false →
+    beyond (row-of (a .kind)) a ≡ when (refusals m (op-of a)) 4
+one-range-test m a known shaped = subst (λ (b : Action). beyond (row-of (b .kind)) b ≡ when (refusals m (op-of a)) 4)
+    (frame-of-asked a known shaped) (asked-by-a-frame m (op-of a) .ranges)

@@ -13,11 +13,11 @@ use Rattle.numbers.specs.Sizes.{guests, pages}
 use Rattle.numbers.specs.Tests.{_or_}
 use Rattle.numbers.specs.Rules.{least}
 use Rattle.numbers.specs.Search.{first}
-use Rattle.numbers.specs.Entries.{key-of, entry}
+use Rattle.numbers.specs.Entries.{key-of, entry, at-unit}
 use Rattle.numbers.specs.Frames.{off}
 use Rattle.numbers.proofs.Bools.{split, clash, cond-true, and-i, and-no-l, or-no, or-il, or-ir, isnt-no, not-true}
 use Rattle.numbers.proofs.SearchLaws.{first-passes, first-lowest}
-use Rattle.tables.specs.Table.{has, hit, put, wipe, cleared, place}
+use Rattle.tables.specs.Table.{has, hit, put, wipe, cleared, place, find, full}
 use Rattle.tables.specs.Wants.{W, has-key, everywhere, shared-by, invalidated}
 use Rattle.tables.specs.State.{guest, is-present, holder-of, dma-of, map-of, tlb-of}
 use Rattle.tables.specs.Wf.{Wf}
@@ -86,10 +86,12 @@ pub no-second-pair-excuses : (m : Tables) (l r p : ℕ) (ws : List ℕ) →
 unfolding least
 no-second-pair-excuses m l r p ws e₄ e₅ e₆ pair leans = rw (e₄, e₅, e₆, and-i pair leans)
 
--- a pair that stands, in either order, is neither refused for want of room nor changed
-pub standing-pair-kept : (m : Tables) (l r p : ℕ) → has W (shared-by l r p) (m .pairs) ≡ true →
-    (when (refusals m (SharePage l r p)) 15 ≡ false) × (effect m (SharePage l r p) ≡ m)
-standing-pair-kept m l r p e = (and-no-l _ (isnt-no e), rw e)
+-- a pair that stands, in either order, is accepted again, however full the table, and nothing changes
+pub standing-pair-kept : (m : Tables) (l r p : ℕ) (ws : List ℕ) →
+    (off l guests or off r guests or off p pages) ≡ false → eqb l r ≡ false → (absent m l or absent m r) ≡ false → holds m l p ≡ true →
+    has W (shared-by l r p) (m .pairs) ≡ true → acted m (SharePage l r p) ws ≡ record { number = 0; word = 0; tables = m; memory = ws }
+unfolding least next does
+standing-pair-kept m l r p ws e₄ e₅ e₆ mine pair = rw (e₄, e₅, e₆, isnt-no mine, and-no-l (full W (m .pairs)) (isnt-no pair), pair)
 
 -- ── map and unmap, on either side ──
 module _ (d : Side) (m : Tables) (g v : ℕ) where
@@ -116,6 +118,11 @@ module _ (d : Side) (m : Tables) (g v : ℕ) where
   pub overwritten-stays : (p x : ℕ) → has W (has-key (key-of 0 g v)) (map-of d m) ≡ true →
       map-of d (effect m (Map d g v p x)) ≡ set (map-of d m) (first (hit W (has-key (key-of 0 g v))) (map-of d m)) (entry 0 g v p x)
   overwritten-stays p x e = map-with m _ (invalidated g v (tlb-of d m)) d ∙ put-over W zero-free _ _ (map-of d m) e
+
+  pub refilled-stays : (u : ℕ) → has W (has-key (key-of u g v)) (tlb-of d m) ≡ true →
+      tlb-of d (effect m (Fill d g u v)) ≡
+      set (tlb-of d m) (first (hit W (has-key (key-of u g v))) (tlb-of d m)) (at-unit u (find W (has-key (key-of 0 g v)) (map-of d m)))
+  refilled-stays u e = tlb-with m (map-of d m) _ d ∙ put-over W zero-free _ _ (tlb-of d m) e
 
   pub new-takes-lowest : (p x : ℕ) → has W (has-key (key-of 0 g v)) (map-of d m) ≡ false →
       map-of d (effect m (Map d g v p x)) ≡ set (map-of d m) (first (W .free) (map-of d m)) (entry 0 g v p x)

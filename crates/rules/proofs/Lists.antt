@@ -2,6 +2,7 @@
 -- nor a table depends on a word of memory.
 use mathlib.Core.Path.{_≡_, refl, ap}
 use mathlib.Core.Bool.{true, false, cond}
+use lib.ListN.{length}
 use mathlib.Core.List.{List}
 use Prim.Native.Nat.{ℕ, zero, suc, _<_}
 use native.Mathlib.Omega.{arith}
@@ -80,3 +81,9 @@ pub blind-number : (f : ℕ → Action) (i : ℕ) (m : Tables) (ws vs : List ℕ
     answer f (record { tables = m; memory = ws }) i .number ≡ answer f (record { tables = m; memory = vs }) i .number
 unfolding answer
 blind-number f i m ws vs = ap (λ (t : Tables). least (action-rules t (f i))) (blind f i m ws vs)
+
+-- a call looks at memory only for its length
+pub blind-act : (m : Tables) (frame ws vs : List ℕ) → length ws ≡ length vs →
+    (act m frame ws .number ≡ act m frame vs .number) × (act m frame ws .tables ≡ act m frame vs .tables)
+unfolding act
+blind-act m frame ws vs e = (rw e, rw e)

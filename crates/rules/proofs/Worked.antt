@@ -112,6 +112,9 @@ numbers =
     ∷ gets two (Unmap Cpu 1 2) 14
     ∷ gets five (Unmap Iommu 1 2) 14
     ∷ gets five (Drop Cpu 1 0 2) 14
+    -- a filled entry stands at its own unit
+    ∷ gets (done five (Fill Cpu 1 3 2 ∷ [])) (Drop Cpu 1 3 2) 0
+    ∷ gets (done five (Fill Cpu 1 3 2 ∷ [])) (Drop Cpu 1 0 2) 14
     ∷ []
 
 -- ── tables built by hand ──
