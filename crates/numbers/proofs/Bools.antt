@@ -2,6 +2,9 @@
 use mathlib.Core.Path.{_≡_, refl, sym, _∙_}
 use mathlib.Core.Bool.{Bool, true, false, cond, true≢false}
 use mathlib.Core.Logic.{_⊎_, inl, inr}
+use Prim.Native.Nat.{ℕ}
+use lib.Dec.{eqb}
+use borrow.Author.Tests.{eqb-true, eqb-false, eq-eqb, ne-eqb}
 use Rattle.numbers.specs.Tests.{_and_, _or_, isnt}
 
 -- by the two cases of a test, each with its equation
@@ -26,6 +29,12 @@ not-true false h = refl
 pub not-false : (b : Bool) → (b ≡ false → ⊥) → b ≡ true
 not-false true h = refl
 not-false false h = absurd (h refl)
+
+-- either order
+pub eqb-comm : (a b : ℕ) → eqb a b ≡ eqb b a
+eqb-comm a b = split (eqb a b)
+    (λ e. e ∙ sym (eq-eqb b a (sym (eqb-true a b e))))
+    (λ e. e ∙ sym (ne-eqb b a (λ z. eqb-false a b e (sym z))))
 
 -- two tests that follow from each other
 pub bool-ext : (a b : Bool) → (a ≡ true → b ≡ true) → (b ≡ true → a ≡ true) → a ≡ b

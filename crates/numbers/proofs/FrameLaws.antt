@@ -1,15 +1,18 @@
 -- Frames: every action gets exactly one of 0, 3 and 4; the kinds of the table are those of 01's three ranges; and what an
 -- action that passes the check is known to be.
-use mathlib.Core.Path.{_≡_, refl, sym}
+use mathlib.Core.Path.{_≡_, refl, sym, _∙_}
 use mathlib.Core.Bool.{Bool, true, false, Bool·beq}
 use Prim.Native.Nat.{ℕ, _≤_, _<_}
+use mathlib.Core.Logic.{⊎-elim}
+use native.Mathlib.Omega.{arith}
 use lib.Dec.{eqb, leb}
+use borrow.Author.Tests.{leb-true, eqb-true, eqb-false}
 use Rattle.numbers.specs.Tests.{_and_, _or_, isnt}
 use Rattle.numbers.specs.Rules.{least}
 use Rattle.numbers.specs.Search.{first, upto}
 use Rattle.numbers.specs.Frames.{kinds, row-of, stray, beyond, frame-rules, frame-number}
 use Rattle.numbers.specs.declared.frames.Action.{Action}
-use Rattle.numbers.proofs.Bools.{split}
+use Rattle.numbers.proofs.Bools.{split, and-l, and-r, or-e, isnt-i}
 use Rattle.numbers.proofs.RulesLaws.{Applies, rising, least-lowest}
 use Rattle.numbers.proofs.SearchLaws.{upto-at}
 
@@ -56,3 +59,20 @@ beq-eq false false e = refl
 pub kind-known : (k : ℕ) → k < 256 → isnt (eqb (row-of k) 0) ≡ in-ranges k
 unfolding right-row upto row-of kinds first in-ranges within _and_ _or_ isnt
 kind-known k h = beq-eq _ _ (upto-at 256 right-row refl k h)
+
+-- an action that passes the check is of no other kind
+pub no-other-kind : (a : Action) → a .kind < 256 → frame-number a ≡ 0 →
+    (0x01 ≤ a .kind → a .kind ≤ 0x05 → ⊥) → (0x10 ≤ a .kind → a .kind ≤ 0x1b → ⊥) → (0x20 ≤ a .kind → a .kind ≤ 0x25 → ⊥) → ⊥
+unfolding frame-number least in-ranges within
+no-other-kind a h e x y z = split (eqb (row-of (a .kind)) 0)
+    (λ t. let w : 3 ≡ 0 = rw t at e in omega arith)
+    (λ t. ⊎-elim (λ w. x (leb-true _ _ (and-l _ _ w)) (leb-true _ _ (and-r _ _ w)))
+    (λ v. ⊎-elim (λ w. y (leb-true _ _ (and-l _ _ w)) (leb-true _ _ (and-r _ _ w)))
+    (λ w. z (leb-true _ _ (and-l _ _ w)) (leb-true _ _ (and-r _ _ w))) (or-e _ _ v))
+    (or-e _ _ (sym (kind-known (a .kind) h) ∙ isnt-i t)))
+
+-- nor of kind 0
+pub kind-not-0 : (a : Action) → frame-number a ≡ 0 → a .kind ≤ 5 → 1 ≤ a .kind
+kind-not-0 a e l = split (eqb (a .kind) 0)
+    (λ t. let z : a .kind ≡ 0 = eqb-true _ _ t in absurd (no-other-kind a (omega arith) e (λ x y. omega arith) (λ x y. omega arith) (λ x y. omega arith)))
+    (λ t. let z : a .kind ≡ 0 → ⊥ = eqb-false _ _ t in omega arith)

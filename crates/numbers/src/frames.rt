@@ -128,6 +128,9 @@ impl Action {
 
     pub const PAGE_WORDS: u16 = 16;
 
+    // How many bytes a frame has.
+    pub const BYTES: usize = 16;
+
     // The action that 16 bytes say. Bytes that are not there count as 0.
     pub fn decode(bytes: &[u8]) -> Action
         ensures { λ r. ⌜ r ≡ decode (now (bytes .entry)) ⌝ }

@@ -1,0 +1,10 @@
+-- `actions::lists::handle` meets its contract.
+use Rattle.actions.proofs.ListLaws.{handled-by}
+use borrow.Author.Needs.{needs}
+use Rattle.actions.proofs.lists.handle.Statement.{statement}
+use Rattle.actions.proofs.lists.handle.Tie as tie
+
+pub handle-spec : {M : Type 1} → statement M
+handle-spec =
+    tie.close
+    (tie.spec (λ c κs. search needs) (λ c κs. search needs) (λ c. search needs) (λ c. search needs) (λ c. search needs) (λ c. handled-by _ _ (c .before .before .before .before .before .before .before .before .before .before .before .before .before .before .before .args .t) _ _ _ (c .before .before .before .before .before .before .before .before .before .before .take .ensures) (c .before .before .before .before .before .answer .ensures .0) (c .before .before .before .before .before .answer .ensures .1)))

@@ -1,0 +1,32 @@
+-- `actions::machine::Machine::fill_on` meets its contract.
+use Rattle.actions.proofs.Answers.{refuses, accepts}
+use borrow.Author.Needs.{needs}
+use Rattle.actions.proofs.machine.Machine.fill_on.Statement.{statement}
+use Rattle.actions.proofs.machine.Machine.fill_on.Tie as tie
+
+pub fill-on-spec : {M : Type 1} → statement M
+fill-on-spec =
+    tie.close
+    (tie.spec
+    (λ c κs. search needs)
+    (λ c. refuses _ _ (c .before .fill-number .ensures) (c .if1 .taken))
+    (λ c κs. search needs)
+    (λ c κs. search needs)
+    (λ c. search needs)
+    (λ c κs. search needs)
+    (λ c κs. search needs)
+    (λ c κs. search needs)
+    (λ c. search needs)
+    (λ c κs. search needs)
+    (λ c κs. search needs)
+    (λ c κs. search needs)
+    (λ c. accepts _ _ (c .before .before .before .before .before .before .before .before .before .before .before .before .fill-number .ensures) (c .before .before .before .before .before .before .before .before .before .before .before .if1 .left) (rw (
+      c .with-walk .ensures,
+      c .before .before .put .ensures,
+      c .before .before .before .at-unit .ensures,
+      c .before .before .before .before .before .key-of2 .ensures,
+      c .before .before .before .before .before .before .find .ensures,
+      c .before .before .before .before .before .before .before .key-of .ensures,
+      c .before .before .before .before .before .before .before .before .before .before .map-of .ensures,
+      c .before .before .before .before .before .before .before .before .before .tlb-of .ensures,
+    ))))

@@ -1,0 +1,41 @@
+-- `actions::machine::Machine::map_number` meets its contract.
+use Rattle.numbers.specs.Rules.{least}
+use Rattle.numbers.specs.Tests.{_and_, _or_, isnt}
+use Rattle.numbers.specs.Sizes.{guests, pages, gpages, accesses}
+use Rattle.actions.specs.Answers.{number}
+use borrow.Author.Needs.{needs}
+use Rattle.actions.proofs.machine.Machine.map_number.Statement.{statement}
+use Rattle.actions.proofs.machine.Machine.map_number.Tie as tie
+
+returns : tie.Need-returns
+unfolding number least _and_ _or_ isnt guests pages gpages accesses
+returns c = rw (
+  c .rule4 .ensures,
+  c .before .rule3 .ensures,
+  c .before .before .rule2 .ensures,
+  c .before .before .before .rule .ensures,
+  c .before .before .before .before .no-room .ensures,
+  c .before .before .before .before .before .key-of .ensures,
+  c .before .before .before .before .before .before .before .map-of .ensures,
+  c .before .before .before .before .before .before .before .before .reach .ensures,
+  c .before .before .before .before .before .before .before .before .before .before .before .before .before .before .before .held-on .ensures,
+  c .before .before .before .before .before .before .before .before .before .before .before .before .before .before .before .before .absent .ensures,
+)
+
+pub map-number-spec : {M : Type 1} → statement M
+map-number-spec =
+    tie.close
+    (tie.spec
+    (λ c κs. search needs)
+    (λ c κs. search needs)
+    (λ c. search needs)
+    (λ c κs. search needs)
+    (λ c κs. search needs)
+    (λ c. search needs)
+    (λ c κs. search needs)
+    (λ c κs. search needs)
+    (λ c κs. search needs)
+    (λ c κs. search needs)
+    (λ c κs. search needs)
+    (λ c κs. search needs)
+    returns)

@@ -1,0 +1,68 @@
+-- Kinds 01 to 05 leave the tables as they are: they are served from lent parts of them.
+use Prim.Native.Nat.{ℕ}
+use mathlib.Core.Bool.{Bool, cond}
+use mathlib.Core.List.{List, []}
+use lib.Dec.{eqb}
+use Rattle.numbers.specs.Rules.{Rules}
+use Rattle.numbers.specs.Rules.Rules.{accept, _⇒_∣_}
+use Rattle.tables.specs.declared.state.Tables.{Tables}
+use Rattle.tables.specs.declared.state.Side.{Side}
+use Rattle.rules.specs.Actions.{Op, absent, elsewhere, seen, word-at, Outcome, acted}
+use Rattle.rules.specs.Actions.Op.{Read, Write}
+use Rattle.actions.specs.Answers.{number}
+use Rattle.actions.specs.declared.guests.Seen.{Seen}
+use Rattle.actions.specs.declared.guests.Ask.{Ask}
+use Rattle.actions.specs.declared.guests.Target.{Target}
+
+-- the parts that these kinds look at; the others are looked at by none of them
+abbrev pub lent : List Bool → List ℕ → List ℕ → List ℕ → List ℕ → List ℕ → Tables
+lent present running map tlb io-map io-tlb = record {
+  map = map;
+  tlb = tlb;
+  «io_map» = io-map;
+  «io_tlb» = io-tlb;
+  pairs = [];
+  holder = [];
+  dma = [];
+  region = [];
+  present = present;
+  running = running;
+}
+
+-- those of one side, the map and the TLB that the access goes through
+abbrev pub lent-on : List Bool → List ℕ → List ℕ → List ℕ → Tables
+lent-on present running map tlb = lent present running map tlb map tlb
+
+-- what stands of an outcome beside the tables
+pub record Observed : Type 0 where
+  pub number : ℕ
+  pub word : ℕ
+  pub memory : List ℕ
+
+abbrev pub observed : Outcome → Observed
+observed o = record { number = o .number; word = o .word; memory = o .memory }
+
+unfoldable pub served : Tables → Op → List ℕ → Observed
+served m o ws = observed (acted m o ws)
+
+abbrev pub left : Seen → List ℕ → Observed
+left s ws = record { number = s .number; word = s .word; memory = ws }
+
+-- who asks, and on which unit: 4, 6 and 8 come before what is asked for
+abbrev pub asker : Bool → Side → List Bool → List ℕ → ℕ → ℕ → Rules
+asker far d present running g u =
+    let m = lent-on present running [] [] in
+    far ⇒ 4 ∣
+    absent m g ⇒ 6 ∣
+    elsewhere d m u g ⇒ 8 ∣
+    accept
+
+-- an access that reads, or writes; its refusals do not depend on the word
+abbrev pub access-op : Bool → Side → Ask → Op
+access-op writes d q = cond writes (Write d (q .guest) (q .unit) (q .address) 0) (Read d (q .guest) (q .unit) (q .address))
+
+-- its number, and the word of memory that it leads to
+unfoldable pub access : Bool → Side → Tables → Ask → Target
+access writes d m q =
+    let n = number m (access-op writes d q) in
+    record { number = n; at = cond (eqb n 0) (word-at (seen d m (q .guest) (q .unit) (q .address)) (q .address)) 0 }

@@ -1,0 +1,136 @@
+// The machine: its tables go in by value and come back beside the observation. Kinds 01 to 05 stand here; they leave the tables as
+// they are.
+ghost use mathlib.Core.Path.{_≡_};
+ghost use mathlib.Core.List.{List};
+ghost use Prim.Native.Nat.{ℕ};
+ghost use Rattle.tables.specs.declared.state.Side.the-variants.{Cpu, Iommu};
+ghost use Rattle.rules.specs.Actions.{acted};
+ghost use Rattle.rules.specs.Actions.Op.{Read, Write, HyperCall};
+ghost use Rattle.actions.specs.Answers.{after};
+use crate::guests;
+use crate::guests::Ask;
+use crate::guests::Seen;
+use tables::state::Side;
+use tables::state::Tables;
+
+pub struct Machine {
+    pub tables: Tables,
+}
+
+// The observation, a number and a word, and the tables beside it.
+pub struct Out {
+    pub number: u8,
+    pub word: u64,
+    pub tables: Tables,
+}
+
+pub fn beside(seen: Seen, tables: Tables) -> Out
+    ensures { λ r. ⌜ r ≡ record { number = seen .number; word = seen .word; tables = tables } ⌝ }
+{
+    Out {
+        number: seen.number,
+        word: seen.word,
+        tables,
+    }
+}
+
+impl Machine {
+    // 01: the word at an address that the CPU's guest may read.
+    pub fn read(mut self, guest: u8, unit: u8, address: u16, mem: &[u64]) -> Out
+        ensures { λ r. ⌜ after r (now (mem .entry)) ≡ acted (self .tables) (Read Cpu guest unit address) (now (mem .entry)) ⌝ }
+    {
+        let tables = self.tables;
+        let ask = Ask {
+            guest,
+            unit,
+            address,
+        };
+        let seen = guests::read(
+            Side::Cpu,
+            &tables.present,
+            &tables.running,
+            &tables.map,
+            &tables.tlb,
+            ask,
+            mem,
+        );
+        beside(seen, tables)
+    }
+
+    // 02
+    pub fn write(mut self, guest: u8, unit: u8, address: u16, word: u64, mem: &mut [u64]) -> Out
+        ensures { λ r. ⌜ after r (now (mem .exit)) ≡ acted (self .tables) (Write Cpu guest unit address word) (now (mem .entry)) ⌝ }
+    {
+        let tables = self.tables;
+        let ask = Ask {
+            guest,
+            unit,
+            address,
+        };
+        let seen = guests::write(
+            Side::Cpu,
+            &tables.present,
+            &tables.running,
+            &tables.map,
+            &tables.tlb,
+            ask,
+            word,
+            mem,
+        );
+        beside(seen, tables)
+    }
+
+    // 03: any word.
+    pub fn hyper_call(mut self, guest: u8, unit: u8, word: u64) -> Out
+        ensures { λ r. ⌜ ((ws : List ℕ) → after r ws ≡ acted (self .tables) (HyperCall guest unit word) ws) ⌝ }
+    {
+        let tables = self.tables;
+        let seen = guests::hyper_call(&tables.present, &tables.running, guest, unit, word);
+        beside(seen, tables)
+    }
+
+    // 04: as 01, through the IOMMU.
+    pub fn dma_read(mut self, guest: u8, unit: u8, address: u16, mem: &[u64]) -> Out
+        ensures { λ r. ⌜ after r (now (mem .entry)) ≡ acted (self .tables) (Read Iommu guest unit address) (now (mem .entry)) ⌝ }
+    {
+        let tables = self.tables;
+        let ask = Ask {
+            guest,
+            unit,
+            address,
+        };
+        let seen = guests::read(
+            Side::Iommu,
+            &tables.present,
+            &tables.running,
+            &tables.io_map,
+            &tables.io_tlb,
+            ask,
+            mem,
+        );
+        beside(seen, tables)
+    }
+
+    // 05
+    pub fn dma_write(mut self, guest: u8, unit: u8, address: u16, word: u64, mem: &mut [u64]) -> Out
+        ensures { λ r. ⌜ after r (now (mem .exit)) ≡ acted (self .tables) (Write Iommu guest unit address word) (now (mem .entry)) ⌝ }
+    {
+        let tables = self.tables;
+        let ask = Ask {
+            guest,
+            unit,
+            address,
+        };
+        let seen = guests::write(
+            Side::Iommu,
+            &tables.present,
+            &tables.running,
+            &tables.io_map,
+            &tables.io_tlb,
+            ask,
+            word,
+            mem,
+        );
+        beside(seen, tables)
+    }
+}
