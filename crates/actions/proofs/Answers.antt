@@ -74,7 +74,8 @@ pub observed-by : (m : Tables) (o : Op) (ws : List ℕ) → effect m o ≡ m →
 unfolding served
 observed-by m o ws k {r} {n} {w} {vs} q e =
     rw q (ap (λ (x : Observed). record { number = x .number; word = x .word; tables = m; memory = x .memory }) e
-    ∙ ap (λ (t : Tables). record { number = served m o ws .number; word = served m o ws .word; tables = t; memory = served m o ws .memory }) (kept (refusals m o) m o k))
+    ∙ ap (λ (t : Tables). record { number = served m o ws .number; word = served m o ws .word; tables = t; memory = served m o ws .memory })
+    (kept (refusals m o) m o k))
 
 -- a HyperCall changes nothing either way
 pub unmoved : (m : Tables) (g u w : ℕ) {n : ℕ} → n ≡ number m (HyperCall g u w) → (ws : List ℕ) →

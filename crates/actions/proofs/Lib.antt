@@ -1,10 +1,3 @@
 pub mod PartLaws
 pub mod Answers
 pub mod AccessLaws
-pub mod FrontLaws
-pub mod DispatchLaws
-pub mod ListLaws
-pub mod Locals
-pub mod Called
-pub mod Again
-pub mod Three

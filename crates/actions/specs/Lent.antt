@@ -5,10 +5,14 @@ use mathlib.Core.List.{List, []}
 use lib.Dec.{eqb}
 use Rattle.numbers.specs.Rules.{Rules}
 use Rattle.numbers.specs.Rules.Rules.{accept, _⇒_∣_}
+use Rattle.numbers.specs.declared.frames.Action.{Action}
 use Rattle.tables.specs.declared.state.Tables.{Tables}
 use Rattle.tables.specs.declared.state.Side.{Side}
+use Rattle.tables.specs.declared.state.Side.the-variants.{Cpu, Iommu}
 use Rattle.rules.specs.Actions.{Op, absent, elsewhere, seen, word-at, Outcome, acted}
-use Rattle.rules.specs.Actions.Op.{Read, Write}
+use Rattle.rules.specs.Actions.Op.{Read, Write, HyperCall}
+use Rattle.rules.specs.Calls.{chosen}
+use Rattle.rules.specs.Calls.Arms.{_does_∣_, otherwise}
 use Rattle.actions.specs.Answers.{number}
 use Rattle.actions.specs.declared.guests.Seen.{Seen}
 use Rattle.actions.specs.declared.guests.Ask.{Ask}
@@ -47,6 +51,16 @@ served m o ws = observed (acted m o ws)
 
 abbrev pub left : Seen → List ℕ → Observed
 left s ws = record { number = s .number; word = s .word; memory = ws }
+
+-- kinds 01 to 05 by their own rules; any other byte is served as 03, and callers hand over no other
+abbrev pub guest-op : Action → Op
+guest-op a =
+    chosen (a .kind) (
+    0x01 does Read Cpu (a .guest) (a .second) (a .address) ∣
+    0x02 does Write Cpu (a .guest) (a .second) (a .address) (a .word) ∣
+    0x04 does Read Iommu (a .guest) (a .second) (a .address) ∣
+    0x05 does Write Iommu (a .guest) (a .second) (a .address) (a .word) ∣
+    otherwise (HyperCall (a .guest) (a .second) (a .word)))
 
 -- who asks, and on which unit: 4, 6 and 8 come before what is asked for
 abbrev pub asker : Bool → Side → List Bool → List ℕ → ℕ → ℕ → Rules

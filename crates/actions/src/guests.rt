@@ -2,7 +2,7 @@
 ghost use mathlib.Core.Path.{_≡_};
 ghost use mathlib.Core.Bool.{false, cond};
 ghost use mathlib.Core.List.{List, []};
-ghost use Prim.Native.Nat.{ℕ, _≤_};
+ghost use Prim.Native.Nat.{ℕ};
 ghost use lib.Dec.{eqb};
 ghost use lib.ListN.{getD};
 ghost use Rattle.numbers.specs.Rules.{least};
@@ -10,8 +10,8 @@ ghost use Rattle.numbers.specs.Tests.{isnt};
 ghost use Rattle.numbers.specs.Entries.{readable, writable};
 ghost use Rattle.tables.specs.State.{guest, by-side};
 ghost use Rattle.rules.specs.Actions.Op.{Read, Write, HyperCall};
-ghost use Rattle.rules.specs.Calls.{op-of};
-ghost use Rattle.actions.specs.Lent.{lent, lent-on, served, left, asker, access};
+ghost use Rattle.actions.specs.Lent.{lent, lent-on, served, left, guest-op, asker, access};
+use crate::cells;
 use crate::parts;
 use numbers::addresses;
 use numbers::entries;
@@ -129,7 +129,7 @@ pub fn read<'a>(
             word: 0,
         };
     }
-    let word = parts::load(mem, to.at);
+    let word = cells::load(mem, to.at);
     Seen { number: 0, word }
 }
 
@@ -155,7 +155,7 @@ pub fn write<'a>(
             word: 0,
         };
     }
-    parts::store(mem, to.at, word);
+    cells::store(mem, to.at, word);
     Seen { number: 0, word: 0 }
 }
 
@@ -169,7 +169,7 @@ pub fn hyper_call<'a>(present: &'a [bool], running: &'a [u8], g: u8, u: u8, word
     Seen { number, word: 0 }
 }
 
-// The kind chooses.
+// The kind chooses. Callers hand over kinds 01 to 05; any other byte is served as 03.
 pub fn by_kind<'a>(
     present: &'a [bool],
     running: &'a [u8],
@@ -180,10 +180,9 @@ pub fn by_kind<'a>(
     a: Action,
     mem: &mut [u64],
 ) -> Seen
-    requires { ⌜ (1 ≤ a .kind) × (a .kind ≤ 5) ⌝ }
     ensures { λ r. ⌜ left r (now (mem .exit)) ≡ served
         (lent (now (present .entry)) (now (running .entry)) (now (map .entry)) (now (tlb .entry)) (now («io_map» .entry)) (now («io_tlb» .entry)))
-        (op-of a) (now (mem .entry)) ⌝ }
+        (guest-op a) (now (mem .entry)) ⌝ }
 {
     let kind = a.kind;
     let w = a.word;

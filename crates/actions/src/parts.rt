@@ -9,6 +9,7 @@ ghost use Rattle.numbers.specs.Tests.{isnt};
 ghost use Rattle.tables.specs.State.{guest, map-of, tlb-of, held-on};
 ghost use Rattle.rules.specs.Parts.{with-held, with-walk};
 ghost use Rattle.rules.specs.Actions.{another, named, clear-page};
+use crate::cells;
 use numbers::addresses;
 use numbers::frames::Action;
 use tables::state;
@@ -137,48 +138,18 @@ pub fn hold(t: Tables, side: Side, p: u16, who: u8) -> Tables
     ensures { λ r. ⌜ r ≡ with-held side t (set (held-on side t) p who) ⌝ }
 {
     let mut held = held_on(t, side);
-    set_byte(&mut held, p as usize, who);
+    cells::set_byte(&mut held, p as usize, who);
     with_held(t, side, held)
 }
 
-// ── lists by index: past the end nothing is stored, and 0 is read ──
-pub fn set_byte(list: &mut [u8], at: usize, byte: u8)
-    ensures { λ r. ⌜ now (list .exit) ≡ set (now (list .entry)) at byte ⌝ }
-{
-    if at < list.len() {
-        list[at] = byte;
-    }
-}
-
-pub fn set_flag(list: &mut [bool], at: usize, flag: bool)
-    ensures { λ r. ⌜ now (list .exit) ≡ set (now (list .entry)) at flag ⌝ }
-{
-    if at < list.len() {
-        list[at] = flag;
-    }
-}
-
-pub fn load(words: &[u64], at: usize) -> u64
-    ensures { λ r. ⌜ r ≡ getD (now (words .entry)) at 0 ⌝ }
-{
-    if at < words.len() { words[at] } else { 0 }
-}
-
-pub fn store(words: &mut [u64], at: usize, word: u64)
-    ensures { λ r. ⌜ now (words .exit) ≡ set (now (words .entry)) at word ⌝ }
-{
-    if at < words.len() {
-        words[at] = word;
-    }
-}
-
+// ── words of memory ──
 // All words of a page become 0.
 pub fn clear_page(mem: &mut [u64], p: u16)
     ensures { λ r. ⌜ now (mem .exit) ≡ clear-page p (now (mem .entry)) ⌝ }
 {
     let mut n: u16 = 0;
     while n < Action::PAGE_WORDS {
-        store(mem, addresses::word_of(p, n), 0);
+        cells::store(mem, addresses::word_of(p, n), 0);
         n += 1;
     }
 }

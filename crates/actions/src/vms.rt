@@ -5,6 +5,7 @@ ghost use Prim.Native.Nat.{ℕ};
 ghost use Rattle.rules.specs.Actions.{acted};
 ghost use Rattle.rules.specs.Actions.Op.{AddVm, RemoveVm, ContextSwitch, Idle};
 ghost use Rattle.actions.specs.Answers.{after, number};
+use crate::cells;
 use crate::machine::Machine;
 use crate::machine::Out;
 use crate::parts;
@@ -39,7 +40,7 @@ impl Machine {
             };
         }
         let mut present = tables.present;
-        parts::set_flag(&mut present, g as usize, true);
+        cells::set_flag(&mut present, g as usize, true);
         tables.present = present;
         Out {
             number: 0,
@@ -79,7 +80,7 @@ impl Machine {
             };
         }
         let mut present = tables.present;
-        parts::set_flag(&mut present, g as usize, false);
+        cells::set_flag(&mut present, g as usize, false);
         tables.present = present;
         Out {
             number: 0,
@@ -111,7 +112,7 @@ impl Machine {
             };
         }
         let mut running = tables.running;
-        parts::set_byte(&mut running, u as usize, parts::holder(g));
+        cells::set_byte(&mut running, u as usize, parts::holder(g));
         tables.running = running;
         Out {
             number: 0,
@@ -134,7 +135,7 @@ impl Machine {
             };
         }
         let mut running = tables.running;
-        parts::set_byte(&mut running, u as usize, Tables::NOBODY);
+        cells::set_byte(&mut running, u as usize, Tables::NOBODY);
         tables.running = running;
         Out {
             number: 0,

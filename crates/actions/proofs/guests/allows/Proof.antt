@@ -4,4 +4,10 @@ use Rattle.actions.proofs.guests.allows.Statement.{statement}
 use Rattle.actions.proofs.guests.allows.Tie as tie
 
 pub allows-spec : {M : Type 1} → statement M
-allows-spec = tie.close (tie.spec (λ c κs. search needs) (λ c κs. search needs) (λ c. rw (c .before .if1 .taken) (c .writable .ensures)) (λ c. rw (c .before .if1 .left) (c .readable .ensures)))
+allows-spec =
+    tie.close
+    (tie.spec
+    (λ c κs. search needs)
+    (λ c κs. search needs)
+    (λ c. rw (c .before .if1 .taken) (c .writable .ensures))
+    (λ c. rw (c .before .if1 .left) (c .readable .ensures)))

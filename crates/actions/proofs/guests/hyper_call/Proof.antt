@@ -15,7 +15,10 @@ use Rattle.actions.proofs.guests.hyper_call.Tie as tie
 
 returns : tie.Need-returns
 unfolding served number _or_ guests units
-returns c = λ (ws : List ℕ). ap observed (unmoved (lent-on (c .before .before .before .args .present .now) (c .before .before .before .args .running .now) [] []) (c .before .before .before .args .g) (c .before .before .before .args .u) (c .before .before .before .args .word) (c .asker .ensures) ws)
+returns c =
+    λ (ws : List ℕ). ap observed
+    (unmoved (lent-on (c .before .before .before .args .present .now) (c .before .before .before .args .running .now) [] [])
+    (c .before .before .before .args .g) (c .before .before .before .args .u) (c .before .before .before .args .word) (c .asker .ensures) ws)
 
 pub hyper-call-spec : {M : Type 1} → statement M
 hyper-call-spec = tie.close (tie.spec (λ c κs. search needs) returns)

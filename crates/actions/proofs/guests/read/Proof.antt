@@ -13,4 +13,10 @@ unfolding served
 returns c = ap observed (refuses _ _ (number-of _ _ _ _ (c .before .before .access .ensures)) (c .if1 .taken) _)
 
 pub read-spec : {M : Type 1} → statement M
-read-spec = tie.close (tie.spec (λ c κs. search needs) returns (λ c κs. search needs) (λ c. read-done _ _ _ _ (c .before .before .before .access .ensures) (c .before .if1 .left) (c .load .ensures)))
+read-spec =
+    tie.close
+    (tie.spec
+    (λ c κs. search needs)
+    returns
+    (λ c κs. search needs)
+    (λ c. read-done _ _ _ _ (c .before .before .before .access .ensures) (c .before .if1 .left) (c .load .ensures)))

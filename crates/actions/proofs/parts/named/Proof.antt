@@ -25,7 +25,10 @@ returns c = sym (named-none _ _ _ (c .before .loop .inv .1) (c .if1 .taken) (c .
 
 returns-2 : tie.Need-returns-2 Inv-loop μ-loop
 unfolding named
-returns-2 c = sym (named-hit _ _ _ (c .before .before .before .before .loop .inv .1) (c .before .before .before .if1 .left) (sym (c .before .is-guest .ensures) ∙ c .if2 .taken))
+returns-2 c =
+    sym
+    (named-hit _ _ _ (c .before .before .before .before .loop .inv .1) (c .before .before .before .if1 .left)
+    (sym (c .before .is-guest .ensures) ∙ c .if2 .taken))
 
 pub named-spec : {M : Type 1} → statement M
 named-spec =

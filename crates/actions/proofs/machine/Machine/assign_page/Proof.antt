@@ -15,4 +15,13 @@ assign-page-spec =
     (λ c κs. search needs)
     (λ c κs. search needs)
     (λ c. search needs)
-    (λ c. rw (c .before .before .before .before .clear-page .ensures) (accepts _ _ (c .before .before .before .before .before .before .before .assign-page-number .ensures) (c .before .before .before .before .before .before .if1 .left) (rw (c .hold .ensures, c .before .holder .ensures (guest-below _ _ (c .before .before .before .before .before .before .before .assign-page-number .ensures) (c .before .before .before .before .before .before .if1 .left) (c .before .before .before .before .before .before .before .before .before .before .args .g) _ refl))) _)))
+    (λ c. rw (c .before .before .before .before .clear-page .ensures)
+    (accepts _ _ (c .before .before .before .before .before .before .before .assign-page-number .ensures)
+    (c .before .before .before .before .before .before .if1 .left)
+    (rw (
+      c .hold .ensures,
+      c .before .holder .ensures
+          (guest-below _ _ (c .before .before .before .before .before .before .before .assign-page-number .ensures)
+          (c .before .before .before .before .before .before .if1 .left)
+          (c .before .before .before .before .before .before .before .before .before .before .args .g) _ refl),
+    )) _)))

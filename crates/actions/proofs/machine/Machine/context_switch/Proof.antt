@@ -14,7 +14,10 @@ context-switch-spec =
     (λ c. search needs)
     (λ c κs. search needs)
     (λ c κs. search needs)
-    (λ c. accepts _ _ (c .before .before .before .before .before .before .context-switch-number .ensures) (c .before .before .before .before .before .if1 .left) (rw (
+    (λ c. accepts _ _ (c .before .before .before .before .before .before .context-switch-number .ensures) (c .before .before .before .before .before .if1 .left)
+    (rw (
       c .before .set-byte .ensures,
-      c .before .before .holder .ensures (guest-below _ _ (c .before .before .before .before .before .before .context-switch-number .ensures) (c .before .before .before .before .before .if1 .left) (c .before .before .before .before .before .before .before .before .args .g) _ refl),
+      c .before .before .holder .ensures
+          (guest-below _ _ (c .before .before .before .before .before .before .context-switch-number .ensures)
+          (c .before .before .before .before .before .if1 .left) (c .before .before .before .before .before .before .before .before .args .g) _ refl),
     ))))

@@ -12,7 +12,8 @@ use Rattle.actions.proofs.machine.Machine.dma_write.Tie as tie
 returns : tie.Need-returns
 unfolding served does
 returns c = let start = c .before .before .before .before .before .before .before .before .before .before .before .before .before .before .before .before .args in
-    observed-by (start .self .tables) (Write Iommu (start .guest) (start .unit) (start .address) (start .word)) _ refl (c .beside .ensures) (c .before .before .before .write .ensures)
+    observed-by (start .self .tables) (Write Iommu (start .guest) (start .unit) (start .address) (start .word)) _ refl (c .beside .ensures)
+    (c .before .before .before .write .ensures)
 
 pub dma-write-spec : {M : Type 1} → statement M
 dma-write-spec = tie.close (tie.spec (λ c κs. search needs) (λ c κs. search needs) (λ c. search needs) returns)

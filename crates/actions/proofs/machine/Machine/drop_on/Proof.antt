@@ -16,7 +16,8 @@ drop-on-spec =
     (λ c κs. search needs)
     (λ c κs. search needs)
     (λ c κs. search needs)
-    (λ c. accepts _ _ (c .before .before .before .before .before .before .before .before .drop-number .ensures) (c .before .before .before .before .before .before .before .if1 .left) (rw (
+    (λ c. accepts _ _ (c .before .before .before .before .before .before .before .before .drop-number .ensures)
+    (c .before .before .before .before .before .before .before .if1 .left) (rw (
       c .with-walk .ensures,
       c .before .before .wipe .ensures,
       c .before .before .before .key-of .ensures,

@@ -20,7 +20,8 @@ fill-on-spec =
     (λ c κs. search needs)
     (λ c κs. search needs)
     (λ c κs. search needs)
-    (λ c. accepts _ _ (c .before .before .before .before .before .before .before .before .before .before .before .before .fill-number .ensures) (c .before .before .before .before .before .before .before .before .before .before .before .if1 .left) (rw (
+    (λ c. accepts _ _ (c .before .before .before .before .before .before .before .before .before .before .before .before .fill-number .ensures)
+    (c .before .before .before .before .before .before .before .before .before .before .before .if1 .left) (rw (
       c .with-walk .ensures,
       c .before .before .put .ensures,
       c .before .before .before .at-unit .ensures,

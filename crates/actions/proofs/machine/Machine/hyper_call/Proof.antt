@@ -13,7 +13,8 @@ use Rattle.actions.proofs.machine.Machine.hyper_call.Tie as tie
 returns : tie.Need-returns
 unfolding served does
 returns c = let start = c .before .before .before .before .before .before .before .before .args in
-    λ (ws : List ℕ). observed-by (start .self .tables) (HyperCall (start .guest) (start .unit) (start .word)) ws refl (c .beside .ensures) (c .before .hyper-call .ensures ws)
+    λ (ws : List ℕ). observed-by (start .self .tables) (HyperCall (start .guest) (start .unit) (start .word)) ws refl (c .beside .ensures)
+    (c .before .hyper-call .ensures ws)
 
 pub hyper-call-spec : {M : Type 1} → statement M
 hyper-call-spec = tie.close (tie.spec (λ c κs. search needs) (λ c κs. search needs) returns)

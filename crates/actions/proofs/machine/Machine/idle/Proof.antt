@@ -15,7 +15,8 @@ returns c = refuses (c .before .before .before .args .self .tables) (Idle (c .be
 returns-2 : tie.Need-returns-2
 unfolding number least units
 returns-2 c = let start = c .before .before .before .before .before .before .before .args in
-    accepts (start .self .tables) (Idle (start .u)) (c .before .before .before .before .before .rule .ensures) (c .before .before .before .before .if1 .left) (rw (c .before .set-byte .ensures))
+    accepts (start .self .tables) (Idle (start .u)) (c .before .before .before .before .before .rule .ensures) (c .before .before .before .before .if1 .left)
+    (rw (c .before .set-byte .ensures))
 
 pub idle-spec : {M : Type 1} → statement M
 idle-spec =

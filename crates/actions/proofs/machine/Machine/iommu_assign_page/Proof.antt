@@ -8,10 +8,15 @@ use Rattle.actions.proofs.machine.Machine.iommu_assign_page.Tie as tie
 
 returns-2 : tie.Need-returns-2
 unfolding _or_
-returns-2 c = assigned-for-dma _ _ _ (c .before .before .before .before .before .before .before .before .before .before .before .before .before .before .before .iommu-assign-page-number .ensures) (c .before .before .before .before .before .before .before .before .before .before .before .before .before .before .if1 .left) (rw (
-  c .hold .ensures,
-  c .before .holder .ensures (guest-below _ _ (c .before .before .before .before .before .before .before .before .before .before .before .before .before .before .before .iommu-assign-page-number .ensures) (c .before .before .before .before .before .before .before .before .before .before .before .before .before .before .if1 .left) (c .before .before .before .before .before .before .before .before .before .before .before .before .before .before .before .before .before .before .args .g) _ refl),
-)) _ (c .before .before .before .before .clear-unless .ensures ∙ rw (c .before .before .before .before .before .before .holds2 .ensures, c .before .before .before .before .before .before .before .before .before .before .holds .ensures))
+returns-2 c =
+    let clear = c .before .before .before .before in
+    let second = clear .before .before in
+    let first = second .before .before .before .before in
+    let passed = first .before .before .before .before in
+    let number = passed .before .iommu-assign-page-number .ensures in
+    assigned-for-dma _ _ _ number (passed .if1 .left)
+    (rw (c .hold .ensures, c .before .holder .ensures (guest-below _ _ number (passed .if1 .left) (passed .before .before .before .before .args .g) _ refl))) _
+    (clear .clear-unless .ensures ∙ rw (second .holds2 .ensures, first .holds .ensures))
 
 pub iommu-assign-page-spec : {M : Type 1} → statement M
 iommu-assign-page-spec =

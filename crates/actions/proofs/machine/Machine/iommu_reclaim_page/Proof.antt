@@ -6,4 +6,9 @@ use Rattle.actions.proofs.machine.Machine.iommu_reclaim_page.Tie as tie
 
 pub iommu-reclaim-page-spec : {M : Type 1} → statement M
 iommu-reclaim-page-spec =
-    tie.close (tie.spec (λ c κs. search needs) (λ c. refuses _ _ (c .before .iommu-reclaim-page-number .ensures) (c .if1 .taken)) (λ c κs. search needs) (λ c. accepts _ _ (c .before .before .iommu-reclaim-page-number .ensures) (c .before .if1 .left) (c .hold .ensures)))
+    tie.close
+    (tie.spec
+    (λ c κs. search needs)
+    (λ c. refuses _ _ (c .before .iommu-reclaim-page-number .ensures) (c .if1 .taken))
+    (λ c κs. search needs)
+    (λ c. accepts _ _ (c .before .before .iommu-reclaim-page-number .ensures) (c .before .if1 .left) (c .hold .ensures)))

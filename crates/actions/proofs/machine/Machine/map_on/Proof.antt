@@ -19,7 +19,8 @@ map-on-spec =
     (λ c. search needs)
     (λ c κs. search needs)
     (λ c κs. search needs)
-    (λ c. accepts _ _ (c .before .before .before .before .before .before .before .before .before .before .before .before .map-number .ensures) (c .before .before .before .before .before .before .before .before .before .before .before .if1 .left) (rw (
+    (λ c. accepts _ _ (c .before .before .before .before .before .before .before .before .before .before .before .before .map-number .ensures)
+    (c .before .before .before .before .before .before .before .before .before .before .before .if1 .left) (rw (
       c .with-walk .ensures,
       c .before .before .before .before .before .before .put .ensures,
       c .before .before .before .before .before .before .before .entry .ensures,

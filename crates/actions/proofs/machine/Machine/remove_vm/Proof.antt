@@ -12,4 +12,5 @@ remove-vm-spec =
     (λ c. refuses _ _ (c .before .remove-vm-number .ensures) (c .if1 .taken))
     (λ c. search needs)
     (λ c κs. search needs)
-    (λ c. accepts _ _ (c .before .before .before .before .before .remove-vm-number .ensures) (c .before .before .before .before .if1 .left) (rw (c .before .set-flag .ensures))))
+    (λ c. accepts _ _ (c .before .before .before .before .before .remove-vm-number .ensures) (c .before .before .before .before .if1 .left)
+    (rw (c .before .set-flag .ensures))))

@@ -9,20 +9,28 @@ use Rattle.actions.proofs.machine.Machine.remove_vm_number.Tie as tie
 
 returns : tie.Need-returns
 unfolding number least _and_ _or_ isnt guests
-returns c = rw (
-  c .rule3 .ensures,
-  c .before .rule2 .ensures,
-  c .before .before .rule .ensures,
-  c .before .before .before .named3 .ensures,
-  c .before .before .before .before .before .before .before .has5 .ensures,
-  c .before .before .before .before .before .before .before .before .before .before .before .has4 .ensures,
-  c .before .before .before .before .before .before .before .before .before .before .before .before .before .before .before .has3 .ensures,
-  c .before .before .before .before .before .before .before .before .before .before .before .before .before .before .before .before .before .before .before .has2 .ensures,
-  c .before .before .before .before .before .before .before .before .before .before .before .before .before .before .before .before .before .before .before .before .before .before .before .has .ensures,
-  c .before .before .before .before .before .before .before .before .before .before .before .before .before .before .before .before .before .before .before .before .before .before .before .before .before .before .before .named2 .ensures,
-  c .before .before .before .before .before .before .before .before .before .before .before .before .before .before .before .before .before .before .before .before .before .before .before .before .before .before .before .before .before .before .before .named .ensures,
-  c .before .before .before .before .before .before .before .before .before .before .before .before .before .before .before .before .before .before .before .before .before .before .before .before .before .before .before .before .before .before .before .before .before .before .before .absent .ensures,
-)
+returns c =
+    let pairs = c .before .before .before .before .before .before .before in
+    let io-tlb = pairs .before .before .before .before in
+    let tlb = io-tlb .before .before .before .before in
+    let io-map = tlb .before .before .before .before in
+    let map = io-map .before .before .before .before in
+    let dma = map .before .before .before .before in
+    let held = dma .before .before .before .before in
+    rw (
+      c .rule3 .ensures,
+      c .before .rule2 .ensures,
+      c .before .before .rule .ensures,
+      c .before .before .before .named3 .ensures,
+      pairs .has5 .ensures,
+      io-tlb .has4 .ensures,
+      tlb .has3 .ensures,
+      io-map .has2 .ensures,
+      map .has .ensures,
+      dma .named2 .ensures,
+      held .named .ensures,
+      held .before .before .before .before .absent .ensures,
+    )
 
 pub remove-vm-number-spec : {M : Type 1} → statement M
 remove-vm-number-spec =

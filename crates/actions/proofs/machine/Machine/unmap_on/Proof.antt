@@ -18,7 +18,8 @@ unmap-on-spec =
     (λ c. search needs)
     (λ c κs. search needs)
     (λ c κs. search needs)
-    (λ c. accepts _ _ (c .before .before .before .before .before .before .before .before .before .before .before .unmap-number .ensures) (c .before .before .before .before .before .before .before .before .before .before .if1 .left) (rw (
+    (λ c. accepts _ _ (c .before .before .before .before .before .before .before .before .before .before .before .unmap-number .ensures)
+    (c .before .before .before .before .before .before .before .before .before .before .if1 .left) (rw (
       c .with-walk .ensures,
       c .before .before .before .before .before .before .wipe .ensures,
       c .before .before .before .before .before .before .before .key-of .ensures,

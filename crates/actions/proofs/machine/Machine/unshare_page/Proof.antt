@@ -7,4 +7,10 @@ use Rattle.actions.proofs.machine.Machine.unshare_page.Tie as tie
 pub unshare-page-spec : {M : Type 1} → statement M
 unshare-page-spec =
     tie.close
-    (tie.spec (λ c κs. search needs) (λ c. refuses _ _ (c .before .unshare-page-number .ensures) (c .if1 .taken)) (λ c. search needs) (λ c κs. search needs) (λ c. accepts _ _ (c .before .before .before .before .before .unshare-page-number .ensures) (c .before .before .before .before .if1 .left) (rw (c .before .wipe .ensures))))
+    (tie.spec
+    (λ c κs. search needs)
+    (λ c. refuses _ _ (c .before .unshare-page-number .ensures) (c .if1 .taken))
+    (λ c. search needs)
+    (λ c κs. search needs)
+    (λ c. accepts _ _ (c .before .before .before .before .before .unshare-page-number .ensures) (c .before .before .before .before .if1 .left)
+    (rw (c .before .wipe .ensures))))

@@ -12,7 +12,8 @@ use Rattle.actions.proofs.machine.Machine.write.Tie as tie
 returns : tie.Need-returns
 unfolding served does
 returns c = let start = c .before .before .before .before .before .before .before .before .before .before .before .before .before .before .before .before .args in
-    observed-by (start .self .tables) (Write Cpu (start .guest) (start .unit) (start .address) (start .word)) _ refl (c .beside .ensures) (c .before .before .before .write .ensures)
+    observed-by (start .self .tables) (Write Cpu (start .guest) (start .unit) (start .address) (start .word)) _ refl (c .beside .ensures)
+    (c .before .before .before .write .ensures)
 
 pub write-spec : {M : Type 1} → statement M
 write-spec = tie.close (tie.spec (λ c κs. search needs) (λ c κs. search needs) (λ c. search needs) returns)

@@ -1,9 +1,0 @@
--- `actions::parts::set_flag` meets its contract.
-use mathlib.Core.Path.{sym}
-use lib.Seq.{set-out}
-use borrow.Author.Needs.{needs}
-use Rattle.actions.proofs.parts.set_flag.Statement.{statement}
-use Rattle.actions.proofs.parts.set_flag.Tie as tie
-
-pub set-flag-spec : {M : Type 1} → statement M
-set-flag-spec = tie.close (tie.spec (λ c. search needs) (λ c. search needs) (λ c. search needs) (λ c. sym (set-out (c .before .args .list .now) (c .before .args .at) (c .before .args .flag) (c .if1 .left))))

@@ -1,0 +1,7 @@
+pub mod FrontLaws
+pub mod DispatchLaws
+pub mod ListLaws
+pub mod Locals
+pub mod Called
+pub mod Again
+pub mod Three
