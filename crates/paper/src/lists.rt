@@ -1,0 +1,119 @@
+// Lists of frames: 01's example after its boot line, and three frames that are refused; then lists refused whole.
+use crate::show;
+use actions::cells;
+use calls::referee::Referee;
+use numbers::frames;
+use tables::state::Tables;
+
+const FRAMES: usize = 9;
+
+const BYTES: usize = 144;
+
+const PLACES: usize = 11;
+
+// The seventh is of no kind, the eighth has a number out of range, the ninth a key that is not there.
+const LIST: [u64; FRAMES] = [
+    0x1001000000000000, // AddVm
+    0x1201000000000005, // AssignPage
+    0x1601000300020005, // Map
+    0x1801000000000000, // ContextSwitch
+    0x0201000000210000, // Write
+    0x0101000000210000, // Read
+    0x1c01000000000005,
+    0x1208000000000005, // AssignPage
+    0x1701000000030000, // Unmap
+];
+
+fn list() -> [u8; BYTES] {
+    let mut bytes = [0u8; BYTES];
+    let mut i: u8 = 0;
+    while i < 9 {
+        let at = i as usize;
+        show::put(&mut bytes, i, LIST[at]);
+        i += 1;
+    }
+    bytes
+}
+
+fn places<'a>(numbers: &'a [u8], words: &'a [u64]) {
+    let mut i: usize = 0;
+    while i < numbers.len() {
+        show::answer(frames::byte(numbers, i), cells::load(words, i));
+        i += 1;
+    }
+}
+
+// The list's own number, how many were handled and accepted, the answer places that were lent, and what changed.
+fn run(t: Tables, bytes: &[u8], mem: &mut [u64], numbers: &mut [u8], words: &mut [u64]) {
+    let referee = Referee { tables: t };
+    let ran = referee.run(bytes, mem, numbers, words);
+    show::decimal(ran.number as u64);
+    show::text(b" ");
+    show::decimal(ran.handled as u64);
+    show::text(b" ");
+    show::decimal(ran.accepted as u64);
+    places(numbers, words);
+    show::changes(t, ran.tables);
+    show::text(b" word ");
+    show::hex(cells::load(mem, 81), 16);
+    show::text(b"\n");
+}
+
+fn bytes_of(bytes: &[u8], n: usize) -> &[u8] {
+    if n <= bytes.len() {
+        &bytes[0..n]
+    } else {
+        bytes
+    }
+}
+
+fn words_of(words: &mut [u64], n: usize) -> &mut [u64] {
+    if n <= words.len() {
+        &mut words[0..n]
+    } else {
+        words
+    }
+}
+
+fn places_of(places: &mut [u8], n: usize) -> &mut [u8] {
+    if n <= places.len() {
+        &mut places[0..n]
+    } else {
+        places
+    }
+}
+
+// The list in front of lent parts of these lengths.
+fn cut(t: Tables, bytes: usize, memory: usize, places: usize) {
+    let all = list();
+    let mut mem = [7u64; show::WORDS];
+    let mut numbers = [0xeeu8; PLACES];
+    let mut words = [0xeeu64; PLACES];
+    run(
+        t,
+        bytes_of(&all, bytes),
+        words_of(&mut mem, memory),
+        places_of(&mut numbers, places),
+        &mut words,
+    );
+}
+
+pub fn example() {
+    show::text(b"a list of nine, two places more, and a place for each\n");
+    let t = Tables::boot(0xffff, 0);
+    cut(t, BYTES, show::WORDS, PLACES);
+    cut(t, BYTES, show::WORDS, FRAMES);
+}
+
+pub fn refused() {
+    show::text(b"refused whole: a byte less, a word less, a place less, tables out of order\n");
+    let t = Tables::boot(0xffff, 0);
+    cut(t, BYTES - 1, show::WORDS, PLACES);
+    cut(t, BYTES, show::WORDS - 1, PLACES);
+    cut(t, BYTES, show::WORDS, FRAMES - 1);
+    let mut odd = t;
+    let mut running = odd.running;
+    running[0] = 9;
+    odd.running = running;
+    cut(odd, BYTES, show::WORDS, PLACES);
+}
