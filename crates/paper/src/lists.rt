@@ -1,8 +1,10 @@
-// Lists of frames: 01's example after its boot line, and three frames that are refused; then lists refused whole.
+// Lists of frames: 01's example after its boot line, and three frames that are refused; the same decoded; then lists refused whole.
 use crate::show;
 use actions::cells;
+use calls::lists::Ran;
 use calls::referee::Referee;
 use numbers::frames;
+use numbers::frames::Action;
 use tables::state::Tables;
 
 const FRAMES: usize = 9;
@@ -44,9 +46,7 @@ fn places<'a>(numbers: &'a [u8], words: &'a [u64]) {
 }
 
 // The list's own number, how many were handled and accepted, the answer places that were lent, and what changed.
-fn run(t: Tables, bytes: &[u8], mem: &mut [u64], numbers: &mut [u8], words: &mut [u64]) {
-    let referee = Referee { tables: t };
-    let ran = referee.run(bytes, mem, numbers, words);
+fn left<'a>(t: Tables, ran: Ran, mem: &[u64], numbers: &'a [u8], words: &'a [u64]) {
     show::decimal(ran.number as u64);
     show::text(b" ");
     show::decimal(ran.handled as u64);
@@ -57,6 +57,12 @@ fn run(t: Tables, bytes: &[u8], mem: &mut [u64], numbers: &mut [u8], words: &mut
     show::text(b" word ");
     show::hex(cells::load(mem, 81), 16);
     show::text(b"\n");
+}
+
+fn run(t: Tables, bytes: &[u8], mem: &mut [u64], numbers: &mut [u8], words: &mut [u64]) {
+    let referee = Referee { tables: t };
+    let ran = referee.run(bytes, mem, numbers, words);
+    left(t, ran, mem, numbers, words);
 }
 
 fn bytes_of(bytes: &[u8], n: usize) -> &[u8] {
@@ -103,6 +109,41 @@ pub fn example() {
     let t = Tables::boot(0xffff, 0);
     cut(t, BYTES, show::WORDS, PLACES);
     cut(t, BYTES, show::WORDS, FRAMES);
+}
+
+// The list's frames, each decoded by itself.
+fn actions() -> [Action; FRAMES] {
+    let bytes = list();
+    let mut actions = [Action::decode(&bytes[0..Action::BYTES]); FRAMES];
+    let mut i: usize = 1;
+    while i < FRAMES {
+        let at = i * Action::BYTES;
+        actions[i] = Action::decode(&bytes[at..at + Action::BYTES]);
+        i += 1;
+    }
+    actions
+}
+
+// A slice of structs is lent, so this function is proved by hand.
+fn run_decoded(
+    t: Tables,
+    actions: [Action; FRAMES],
+    mem: &mut [u64],
+    numbers: &mut [u8],
+    words: &mut [u64],
+) -> Ran {
+    let referee = Referee { tables: t };
+    referee.run_actions(&actions, mem, numbers, words)
+}
+
+pub fn decoded() {
+    show::text(b"the same, decoded\n");
+    let t = Tables::boot(0xffff, 0);
+    let mut mem = [7u64; show::WORDS];
+    let mut numbers = [0xeeu8; PLACES];
+    let mut words = [0xeeu64; PLACES];
+    let ran = run_decoded(t, actions(), &mut mem, &mut numbers, &mut words);
+    left(t, ran, &mem, &numbers, &words);
 }
 
 pub fn refused() {

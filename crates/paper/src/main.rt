@@ -22,5 +22,6 @@ fn main() {
     built::reversed_pair(&mut mem);
     built::cached_alone(&mut mem);
     lists::example();
+    lists::decoded();
     lists::refused();
 }
