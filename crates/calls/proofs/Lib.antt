@@ -5,3 +5,4 @@ pub mod Locals
 pub mod Called
 pub mod Again
 pub mod Three
+pub mod Answered

@@ -1,0 +1,150 @@
+-- Demand 1 at the calls, from their contracts alone: the answer is one of 0 to 15, it is the lowest that applies, a refusal hands back
+-- 0 and leaves every table entry, word and answer place as it was; and no second answer could satisfy a contract. That each call ends,
+-- whatever it is given, is part of its proof: none has a `requires`.
+use mathlib.Core.Path.{_≡_, refl, sym, ap, _∙_}
+use mathlib.Core.Bool.{Bool, true, false}
+use mathlib.Core.List.{List, []}
+use Prim.Native.Nat.{ℕ, suc, _≤_}
+use native.Mathlib.Omega.{arith}
+use lib.Dec.{eqb, leb}
+use borrow.Author.Tests.{leb-true}
+use Rattle.numbers.specs.Tests.{_and_}
+use Rattle.numbers.specs.Rules.{Rules, least}
+use Rattle.numbers.specs.Rules.Rules.{accept, _⇒_∣_}
+use Rattle.numbers.specs.Frames.{decode, frame-rules}
+use Rattle.numbers.specs.declared.frames.Action.{Action}
+use Rattle.numbers.proofs.Bools.{split, and-l, and-r}
+use Rattle.tables.specs.declared.state.Tables.{Tables}
+use Rattle.rules.specs.Actions.{Op, refusals, Outcome, outcome, acted}
+use Rattle.rules.specs.Actions.Op.{Read, Write, HyperCall, AddVm, RemoveVm, AssignPage, ReclaimPage, SharePage, UnsharePage, Map, Unmap, ContextSwitch, Idle, Fill, Drop, IommuAssignPage, IommuReclaimPage}
+use Rattle.rules.specs.Calls.{op-of, _then_, action-rules, taken, act-rules, act, Machine, refused, run-rules, listed, answer}
+use Rattle.rules.specs.Calls.{after as after-list}
+use Rattle.rules.specs.Calls as calls
+use Rattle.rules.proofs.Lowest.{Lowest, lowest, lowest-action, lowest-act, Unchanged, refused-changes-nothing, refused-list-changes-nothing}
+use Rattle.actions.specs.Answers.{after}
+use Rattle.actions.specs.declared.machine.Out.{Out}
+use Rattle.calls.specs.Lists.{ended}
+use Rattle.calls.specs.declared.lists.Ran.{Ran}
+
+-- ── the numbers of a list of refusals ──
+abbrev at-most : ℕ → Rules → Bool
+at-most n accept = true
+at-most n (bad ⇒ k ∣ later) = leb k n and at-most n later
+
+least-at-most : (n : ℕ) (rules : Rules) → at-most n rules ≡ true → least rules ≤ n
+unfolding least
+least-at-most n accept e = omega arith
+least-at-most n (true ⇒ k ∣ later) e = leb-true k n (and-l _ _ e)
+least-at-most n (false ⇒ k ∣ later) e = least-at-most n later (and-r _ _ e)
+
+fifteen : (m : Tables) (o : Op) → at-most 15 (refusals m o) ≡ true
+unfolding _and_
+fifteen m (Read d g u a) = refl
+fifteen m (Write d g u a w) = refl
+fifteen m (HyperCall g u w) = refl
+fifteen m (AddVm g) = refl
+fifteen m (RemoveVm g) = refl
+fifteen m (AssignPage g p) = refl
+fifteen m (ReclaimPage g p) = refl
+fifteen m (SharePage l r p) = refl
+fifteen m (UnsharePage l r p) = refl
+fifteen m (Map d g v p x) = refl
+fifteen m (Unmap d g v) = refl
+fifteen m (ContextSwitch g u) = refl
+fifteen m (Idle u) = refl
+fifteen m (Fill d g u v) = refl
+fifteen m (Drop d g u v) = refl
+fifteen m (IommuAssignPage g p) = refl
+fifteen m (IommuReclaimPage g p) = refl
+
+-- ── one action, one frame ──
+-- what is left of a call: the answer r, and the memory vs
+pub record Answered (rules : Rules) (m : Tables) (ws : List ℕ) (r : Out) (vs : List ℕ) : Type 0 where
+  pub numbered : r .number ≤ 15
+  -- the lowest that applies, and none otherwise
+  pub which : r .number ≡ least rules
+  pub lowest : Lowest rules
+  -- a refusal leaves all as it was
+  pub refusal : (r .number ≡ 0 → ⊥) → (r .word ≡ 0) × (r .tables ≡ m) × (vs ≡ ws)
+
+module _ (m : Tables) (o : Op) (ws : List ℕ) (r : Out) (vs : List ℕ) where
+  answered : (rules : Rules) → at-most 15 rules ≡ true → Lowest rules → after r vs ≡ outcome rules m o ws → Answered rules m ws r vs
+  answered rules b l e =
+      let n : r .number ≡ least rules = ap (λ (x : Outcome). x .number) e in record {
+        numbered = rw n (least-at-most 15 rules b);
+        which = n;
+        lowest = l;
+        refusal = λ h.
+            let u = refused-changes-nothing rules m o ws (λ z. h (n ∙ z)) in (
+              ap (λ (x : Outcome). x .word) e ∙ u .word,
+              ap (λ (x : Outcome). x .tables) e ∙ u .tables,
+              ap (λ (x : Outcome). x .memory) e ∙ u .memory,
+            );
+      }
+
+  -- each of the 23 methods
+  pub method-answered : after r vs ≡ acted m o ws → Answered (refusals m o) m ws r vs
+  method-answered e = answered (refusals m o) (fifteen m o) (lowest m o) e
+
+module _ (m : Tables) (ws : List ℕ) (r : Out) (vs : List ℕ) where
+  -- `take`: a decoded action
+  pub take-answered : (a : Action) → after r vs ≡ taken m a ws → Answered (action-rules m a) m ws r vs
+  unfolding _then_ _and_
+  take-answered a e = answered m (op-of a) ws r vs (action-rules m a) (fifteen m (op-of a)) (lowest-action m a) e
+
+  -- `act`: any bytes
+  pub act-answered : (frame : List ℕ) → after r vs ≡ act m frame ws → Answered (act-rules m frame ws) m ws r vs
+  unfolding act _then_ _and_
+  act-answered frame e =
+      answered m (op-of (decode frame)) ws r vs (act-rules m frame ws) (fifteen m (op-of (decode frame))) (lowest-act m frame ws) e
+
+-- ── a list ──
+module _ (odd : Bool) (f : ℕ → Action) (n : ℕ) (s : Machine) (numbers words : List ℕ) where
+  -- its own number is 0, 1 or 2
+  own-at-most : listed odd f n s numbers words .number ≤ 2
+  unfolding _and_
+  own-at-most = split (eqb (least (run-rules odd n s numbers words)) 0)
+      (λ t. rw t (omega arith))
+      (λ t. rw t (least-at-most 2 (run-rules odd n s numbers words) refl))
+
+  -- `run` and `run_actions`: a list that is refused whole handles nothing and writes nothing
+  pub list-answered : (r : Ran) (vs ns xs : List ℕ) → ended r vs ns xs ≡ listed odd f n s numbers words →
+      (r .number ≤ 2) × ((r .number ≡ 0 → ⊥) → ended r vs ns xs ≡ refused (r .number) s numbers words)
+  list-answered r vs ns xs e =
+      let k : r .number ≡ listed odd f n s numbers words .number = ap (λ (x : calls.Ran). x .number) e in (
+        rw k own-at-most,
+        λ h. e ∙ refused-list-changes-nothing odd f n s numbers words (λ z. h (k ∙ z)) ∙ ap (λ (j : ℕ). refused j s numbers words) (sym k),
+      )
+
+-- each action of it is answered as `take` answers, and a refused one leaves tables and memory to the next
+module _ (f : ℕ → Action) (s : Machine) (i : ℕ) where
+  pub each-answered : Answered (action-rules (after-list f i s .tables) (f i)) (after-list f i s .tables) (after-list f i s .memory)
+      (record { number = answer f s i .number; word = answer f s i .word; tables = answer f s i .tables }) (answer f s i .memory)
+  unfolding answer
+  each-answered = take-answered _ _ _ _ (f i) refl
+
+  pub each-next : (after-list f (suc i) s .tables ≡ answer f s i .tables) × (after-list f (suc i) s .memory ≡ answer f s i .memory)
+  unfolding answer after-list
+  each-next = (refl, refl)
+
+-- ── no second answer ──
+module _ {r q : Out} {vs us : List ℕ} where
+  pub one-answer : {x : Outcome} → after r vs ≡ x → after q us ≡ x → (r ≡ q) × (vs ≡ us)
+  one-answer a b = (
+    ap (λ (x : Outcome). record { number = x .number; word = x .word; tables = x .tables }) (a ∙ sym b),
+    ap (λ (x : Outcome). x .memory) (a ∙ sym b),
+  )
+
+-- a method that takes no memory
+pub one-method-answer : (m : Tables) (o : Op) {r q : Out} →
+    ((ws : List ℕ) → after r ws ≡ acted m o ws) → ((ws : List ℕ) → after q ws ≡ acted m o ws) → r ≡ q
+one-method-answer m o a b = one-answer (a []) (b []) .0
+
+pub one-list-answer : {r q : Ran} {vs us ns ks xs ys : List ℕ} {x : calls.Ran} →
+    ended r vs ns xs ≡ x → ended q us ks ys ≡ x → (r ≡ q) × (vs ≡ us) × (ns ≡ ks) × (xs ≡ ys)
+one-list-answer a b = (
+  ap (λ (x : calls.Ran). record { number = x .number; handled = x .handled; accepted = x .accepted; tables = x .tables }) (a ∙ sym b),
+  ap (λ (x : calls.Ran). x .memory) (a ∙ sym b),
+  ap (λ (x : calls.Ran). x .numbers) (a ∙ sym b),
+  ap (λ (x : calls.Ran). x .words) (a ∙ sym b),
+)
