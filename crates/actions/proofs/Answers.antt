@@ -10,14 +10,17 @@ use Rattle.numbers.specs.Tests.{_or_}
 use Rattle.numbers.specs.Rules.{Rules, least}
 use Rattle.numbers.specs.Frames.{off}
 use Rattle.numbers.proofs.Bools.{split, or-l}
+use Rattle.tables.specs.State.{map-of, tlb-of}
 use Rattle.tables.specs.declared.state.Tables.{Tables}
+use Rattle.tables.specs.declared.state.Side.{Side}
+use Rattle.tables.specs.declared.state.Side.the-variants.{Cpu, Iommu}
 use Rattle.rules.specs.Actions.{Op, holds, dma-holds, refusals, clear-page, effect, touch, touched, handed-back, accepted, next, does, outcome, acted}
-use Rattle.rules.specs.Actions.Op.{HyperCall, IommuAssignPage}
+use Rattle.rules.specs.Actions.Op.{Read, Write, HyperCall, IommuAssignPage}
 use Rattle.rules.specs.Actions.Touch.{Keeps, Clears}
 use Rattle.rules.proofs.Lowest.{when, accepted-clear}
 use Rattle.rules.proofs.Ranges.{below}
 use Rattle.actions.specs.Answers.{after, number}
-use Rattle.actions.specs.Lent.{Observed, served}
+use Rattle.actions.specs.Lent.{lent-on, Observed, served}
 use Rattle.actions.specs.declared.machine.Out.{Out}
 
 module _ (rules : Rules) (m : Tables) (o : Op) (ws : List ℕ) {n : ℕ} (e : n ≡ least rules) where
@@ -76,6 +79,20 @@ observed-by m o ws k {r} {n} {w} {vs} q e =
     rw q (ap (λ (x : Observed). record { number = x .number; word = x .word; tables = m; memory = x .memory }) e
     ∙ ap (λ (t : Tables). record { number = served m o ws .number; word = served m o ws .word; tables = t; memory = served m o ws .memory })
     (kept (refusals m o) m o k))
+
+-- an access, served from its side's map and TLB
+module _ (m : Tables) (g u a : ℕ) (ws : List ℕ) where
+  pub read-from : (d : Side) →
+      served (lent-on (m .present) (m .running) (map-of d m) (tlb-of d m)) (Read d g u a) ws ≡ served m (Read d g u a) ws
+  unfolding served does
+  read-from Cpu = refl
+  read-from Iommu = refl
+
+  pub write-from : (w : ℕ) (d : Side) →
+      served (lent-on (m .present) (m .running) (map-of d m) (tlb-of d m)) (Write d g u a w) ws ≡ served m (Write d g u a w) ws
+  unfolding served does
+  write-from w Cpu = refl
+  write-from w Iommu = refl
 
 -- a HyperCall changes nothing either way
 pub unmoved : (m : Tables) (g u w : ℕ) {n : ℕ} → n ≡ number m (HyperCall g u w) → (ws : List ℕ) →

@@ -10,6 +10,7 @@ ghost use Rattle.actions.specs.Answers.{after};
 use crate::guests;
 use crate::guests::Ask;
 use crate::guests::Seen;
+use crate::parts;
 use tables::state::Side;
 use tables::state::Tables;
 
@@ -35,49 +36,58 @@ pub fn beside(seen: Seen, tables: Tables) -> Out
 }
 
 impl Machine {
+    // An access of either side goes through that side's map and TLB.
+    fn read_on(self, side: Side, ask: Ask, mem: &[u64]) -> Out
+        ensures { λ r. ⌜ after r (now (mem .entry)) ≡ acted (self .tables) (Read side (ask .guest) (ask .unit) (ask .address)) (now (mem .entry)) ⌝ }
+    {
+        let tables = self.tables;
+        let map = parts::map_of(tables, side);
+        let tlb = parts::tlb_of(tables, side);
+        let seen = guests::read(side, &tables.present, &tables.running, &map, &tlb, ask, mem);
+        beside(seen, tables)
+    }
+
+    fn write_on(self, side: Side, ask: Ask, word: u64, mem: &mut [u64]) -> Out
+        ensures { λ r. ⌜ after r (now (mem .exit)) ≡ acted (self .tables) (Write side (ask .guest) (ask .unit) (ask .address) word) (now (mem .entry)) ⌝ }
+    {
+        let tables = self.tables;
+        let map = parts::map_of(tables, side);
+        let tlb = parts::tlb_of(tables, side);
+        let seen = guests::write(
+            side,
+            &tables.present,
+            &tables.running,
+            &map,
+            &tlb,
+            ask,
+            word,
+            mem,
+        );
+        beside(seen, tables)
+    }
+
     // 01: the word at an address that the CPU's guest may read.
     pub fn read(mut self, guest: u8, unit: u8, address: u16, mem: &[u64]) -> Out
         ensures { λ r. ⌜ after r (now (mem .entry)) ≡ acted (self .tables) (Read Cpu guest unit address) (now (mem .entry)) ⌝ }
     {
-        let tables = self.tables;
         let ask = Ask {
             guest,
             unit,
             address,
         };
-        let seen = guests::read(
-            Side::Cpu,
-            &tables.present,
-            &tables.running,
-            &tables.map,
-            &tables.tlb,
-            ask,
-            mem,
-        );
-        beside(seen, tables)
+        self.read_on(Side::Cpu, ask, mem)
     }
 
     // 02
     pub fn write(mut self, guest: u8, unit: u8, address: u16, word: u64, mem: &mut [u64]) -> Out
         ensures { λ r. ⌜ after r (now (mem .exit)) ≡ acted (self .tables) (Write Cpu guest unit address word) (now (mem .entry)) ⌝ }
     {
-        let tables = self.tables;
         let ask = Ask {
             guest,
             unit,
             address,
         };
-        let seen = guests::write(
-            Side::Cpu,
-            &tables.present,
-            &tables.running,
-            &tables.map,
-            &tables.tlb,
-            ask,
-            word,
-            mem,
-        );
-        beside(seen, tables)
+        self.write_on(Side::Cpu, ask, word, mem)
     }
 
     // 03: any word.
@@ -93,44 +103,23 @@ impl Machine {
     pub fn dma_read(mut self, guest: u8, unit: u8, address: u16, mem: &[u64]) -> Out
         ensures { λ r. ⌜ after r (now (mem .entry)) ≡ acted (self .tables) (Read Iommu guest unit address) (now (mem .entry)) ⌝ }
     {
-        let tables = self.tables;
         let ask = Ask {
             guest,
             unit,
             address,
         };
-        let seen = guests::read(
-            Side::Iommu,
-            &tables.present,
-            &tables.running,
-            &tables.io_map,
-            &tables.io_tlb,
-            ask,
-            mem,
-        );
-        beside(seen, tables)
+        self.read_on(Side::Iommu, ask, mem)
     }
 
     // 05
     pub fn dma_write(mut self, guest: u8, unit: u8, address: u16, word: u64, mem: &mut [u64]) -> Out
         ensures { λ r. ⌜ after r (now (mem .exit)) ≡ acted (self .tables) (Write Iommu guest unit address word) (now (mem .entry)) ⌝ }
     {
-        let tables = self.tables;
         let ask = Ask {
             guest,
             unit,
             address,
         };
-        let seen = guests::write(
-            Side::Iommu,
-            &tables.present,
-            &tables.running,
-            &tables.io_map,
-            &tables.io_tlb,
-            ask,
-            word,
-            mem,
-        );
-        beside(seen, tables)
+        self.write_on(Side::Iommu, ask, word, mem)
     }
 }
