@@ -44,6 +44,17 @@ module _ (m : Tables) (o : Op) {n : ℕ} (e : n ≡ number m o) where
   unfolding number
   accepts z q ws = rw q (accepted-by (refusals m o) m o ws e z)
 
+  -- the same of an answer that is known
+  pub refusing : {r : Out} → r ≡ record { number = n; word = 0; tables = m } → (n ≡ 0 → ⊥) → (ws : List ℕ) → after r ws ≡ acted m o ws
+  refusing q h ws = ap (λ (x : Out). after x ws) q ∙ refuses h ws
+
+  pub accepting : {r : Out} {t : Tables} → r ≡ record { number = 0; word = 0; tables = t } → n ≡ 0 → t ≡ effect m o →
+      (ws : List ℕ) → 0 ≡ handed-back (touch m o) ws → after r (touched (touch m o) ws) ≡ acted m o ws
+  accepting {r} {t} q z k ws w =
+      ap (λ (x : Out). after x (touched (touch m o) ws)) q
+      ∙ ap (λ (x : ℕ). record { number = 0; word = x; tables = t; memory = touched (touch m o) ws }) w
+      ∙ accepts z k ws
+
   -- a guest that 4 has passed is in range
   pub guest-below : n ≡ 0 → (g : ℕ) (later : Bool) → when (refusals m o) 4 ≡ (off g guests or later) → g < guests
   unfolding number

@@ -35,6 +35,17 @@ pub fn beside(seen: Seen, tables: Tables) -> Out
     }
 }
 
+// An answer whose word is 0: every refusal, and every action that reads nothing.
+pub fn wordless(number: u8, tables: Tables) -> Out
+    ensures { λ r. ⌜ r ≡ record { number = number; word = 0; tables = tables } ⌝ }
+{
+    Out {
+        number,
+        word: 0,
+        tables,
+    }
+}
+
 impl Machine {
     // An access of either side goes through that side's map and TLB.
     fn read_on(self, side: Side, ask: Ask, mem: &[u64]) -> Out

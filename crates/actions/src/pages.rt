@@ -9,6 +9,7 @@ ghost use Rattle.tables.specs.Wants.{W, shared-by};
 ghost use Rattle.rules.specs.Actions.{leans, acted};
 ghost use Rattle.rules.specs.Actions.Op.{AssignPage, ReclaimPage, SharePage, UnsharePage, IommuAssignPage, IommuReclaimPage};
 ghost use Rattle.actions.specs.Answers.{after, number};
+use crate::machine;
 use crate::machine::Machine;
 use crate::machine::Out;
 use crate::parts;
@@ -58,19 +59,11 @@ impl Machine {
         let tables = self.tables;
         let number = self.assign_page_number(g, p);
         if number != 0 {
-            return Out {
-                number,
-                word: 0,
-                tables,
-            };
+            return machine::wordless(number, tables);
         }
         parts::clear_page(mem, p);
         let next = parts::hold(tables, Side::Cpu, p, parts::holder(g));
-        Out {
-            number: 0,
-            word: 0,
-            tables: next,
-        }
+        machine::wordless(0, next)
     }
 
     fn reclaim_page_number(self, g: u8, p: u16) -> u8
@@ -99,18 +92,10 @@ impl Machine {
         let tables = self.tables;
         let number = self.reclaim_page_number(g, p);
         if number != 0 {
-            return Out {
-                number,
-                word: 0,
-                tables,
-            };
+            return machine::wordless(number, tables);
         }
         let next = parts::hold(tables, Side::Cpu, p, Tables::HYPERVISOR);
-        Out {
-            number: 0,
-            word: 0,
-            tables: next,
-        }
+        machine::wordless(0, next)
     }
 
     fn share_page_number(self, l: u8, r: u8, p: u16) -> u8
@@ -136,20 +121,12 @@ impl Machine {
         let mut tables = self.tables;
         let number = self.share_page_number(l, r, p);
         if number != 0 {
-            return Out {
-                number,
-                word: 0,
-                tables,
-            };
+            return machine::wordless(number, tables);
         }
         let mut pairs = tables.pairs;
         join(&mut pairs, l, r, p);
         tables.pairs = pairs;
-        Out {
-            number: 0,
-            word: 0,
-            tables,
-        }
+        machine::wordless(0, tables)
     }
 
     // 13: the guest maps the page and is not its CPU holder.
@@ -183,20 +160,12 @@ impl Machine {
         let mut tables = self.tables;
         let number = self.unshare_page_number(l, r, p);
         if number != 0 {
-            return Out {
-                number,
-                word: 0,
-                tables,
-            };
+            return machine::wordless(number, tables);
         }
         let mut pairs = tables.pairs;
         search::wipe(&mut pairs, Want::Pair(l, r, p));
         tables.pairs = pairs;
-        Out {
-            number: 0,
-            word: 0,
-            tables,
-        }
+        machine::wordless(0, tables)
     }
 
     fn iommu_assign_page_number(self, g: u8, p: u16) -> u8
@@ -217,20 +186,12 @@ impl Machine {
         let tables = self.tables;
         let number = self.iommu_assign_page_number(g, p);
         if number != 0 {
-            return Out {
-                number,
-                word: 0,
-                tables,
-            };
+            return machine::wordless(number, tables);
         }
         let keep = parts::holds(&tables.dma, g, p) | parts::holds(&tables.holder, g, p);
         parts::clear_unless(keep, mem, p);
         let next = parts::hold(tables, Side::Iommu, p, parts::holder(g));
-        Out {
-            number: 0,
-            word: 0,
-            tables: next,
-        }
+        machine::wordless(0, next)
     }
 
     fn iommu_reclaim_page_number(self, g: u8, p: u16) -> u8
@@ -259,17 +220,9 @@ impl Machine {
         let tables = self.tables;
         let number = self.iommu_reclaim_page_number(g, p);
         if number != 0 {
-            return Out {
-                number,
-                word: 0,
-                tables,
-            };
+            return machine::wordless(number, tables);
         }
         let next = parts::hold(tables, Side::Iommu, p, Tables::NOBODY);
-        Out {
-            number: 0,
-            word: 0,
-            tables: next,
-        }
+        machine::wordless(0, next)
     }
 }

@@ -6,6 +6,7 @@ ghost use Rattle.rules.specs.Actions.{acted};
 ghost use Rattle.rules.specs.Actions.Op.{AddVm, RemoveVm, ContextSwitch, Idle};
 ghost use Rattle.actions.specs.Answers.{after, number};
 use crate::cells;
+use crate::machine;
 use crate::machine::Machine;
 use crate::machine::Out;
 use crate::parts;
@@ -33,20 +34,12 @@ impl Machine {
         let mut tables = self.tables;
         let number = self.add_vm_number(g);
         if number != 0 {
-            return Out {
-                number,
-                word: 0,
-                tables,
-            };
+            return machine::wordless(number, tables);
         }
         let mut present = tables.present;
         cells::set_flag(&mut present, g as usize, true);
         tables.present = present;
-        Out {
-            number: 0,
-            word: 0,
-            tables,
-        }
+        machine::wordless(0, tables)
     }
 
     fn remove_vm_number(self, g: u8) -> u8
@@ -73,20 +66,12 @@ impl Machine {
         let mut tables = self.tables;
         let number = self.remove_vm_number(g);
         if number != 0 {
-            return Out {
-                number,
-                word: 0,
-                tables,
-            };
+            return machine::wordless(number, tables);
         }
         let mut present = tables.present;
         cells::set_flag(&mut present, g as usize, false);
         tables.present = present;
-        Out {
-            number: 0,
-            word: 0,
-            tables,
-        }
+        machine::wordless(0, tables)
     }
 
     fn context_switch_number(self, g: u8, u: u8) -> u8
@@ -105,20 +90,12 @@ impl Machine {
         let mut tables = self.tables;
         let number = self.context_switch_number(g, u);
         if number != 0 {
-            return Out {
-                number,
-                word: 0,
-                tables,
-            };
+            return machine::wordless(number, tables);
         }
         let mut running = tables.running;
         cells::set_byte(&mut running, u as usize, parts::holder(g));
         tables.running = running;
-        Out {
-            number: 0,
-            word: 0,
-            tables,
-        }
+        machine::wordless(0, tables)
     }
 
     // 19: the CPU then runs nobody.
@@ -128,19 +105,11 @@ impl Machine {
         let mut tables = self.tables;
         let number = frames::rule(Action::UNITS <= u, 4, 0);
         if number != 0 {
-            return Out {
-                number,
-                word: 0,
-                tables,
-            };
+            return machine::wordless(number, tables);
         }
         let mut running = tables.running;
         cells::set_byte(&mut running, u as usize, Tables::NOBODY);
         tables.running = running;
-        Out {
-            number: 0,
-            word: 0,
-            tables,
-        }
+        machine::wordless(0, tables)
     }
 }

@@ -6,6 +6,7 @@ ghost use Rattle.tables.specs.declared.state.Side.the-variants.{Cpu, Iommu};
 ghost use Rattle.rules.specs.Actions.{acted};
 ghost use Rattle.rules.specs.Actions.Op.{Map, Unmap, Fill, Drop};
 ghost use Rattle.actions.specs.Answers.{after, number};
+use crate::machine;
 use crate::machine::Machine;
 use crate::machine::Out;
 use crate::parts;
@@ -42,11 +43,7 @@ impl Machine {
         let tables = self.tables;
         let number = self.map_number(side, g, v, p, x);
         if number != 0 {
-            return Out {
-                number,
-                word: 0,
-                tables,
-            };
+            return machine::wordless(number, tables);
         }
         let mut map = parts::map_of(tables, side);
         let key = Want::Key(entries::key_of(0, g, v));
@@ -54,11 +51,7 @@ impl Machine {
         let mut tlb = parts::tlb_of(tables, side);
         search::invalidate(&mut tlb, g, v);
         let next = parts::with_walk(tables, side, map, tlb);
-        Out {
-            number: 0,
-            word: 0,
-            tables: next,
-        }
+        machine::wordless(0, next)
     }
 
     // 16: the guest's entries for the guest page leave the TLB, on all CPUs.
@@ -96,22 +89,14 @@ impl Machine {
         let tables = self.tables;
         let number = self.unmap_number(side, g, v);
         if number != 0 {
-            return Out {
-                number,
-                word: 0,
-                tables,
-            };
+            return machine::wordless(number, tables);
         }
         let mut map = parts::map_of(tables, side);
         search::wipe(&mut map, Want::Key(entries::key_of(0, g, v)));
         let mut tlb = parts::tlb_of(tables, side);
         search::invalidate(&mut tlb, g, v);
         let next = parts::with_walk(tables, side, map, tlb);
-        Out {
-            number: 0,
-            word: 0,
-            tables: next,
-        }
+        machine::wordless(0, next)
     }
 
     // 17
@@ -155,11 +140,7 @@ impl Machine {
         let tables = self.tables;
         let number = self.fill_number(side, g, u, v);
         if number != 0 {
-            return Out {
-                number,
-                word: 0,
-                tables,
-            };
+            return machine::wordless(number, tables);
         }
         let map = parts::map_of(tables, side);
         let mut tlb = parts::tlb_of(tables, side);
@@ -167,11 +148,7 @@ impl Machine {
         let key = Want::Key(entries::key_of(u, g, v));
         search::put(&mut tlb, key, entries::at_unit(u, entry));
         let next = parts::with_walk(tables, side, map, tlb);
-        Out {
-            number: 0,
-            word: 0,
-            tables: next,
-        }
+        machine::wordless(0, next)
     }
 
     // 1a: the map's entry, copied.
@@ -209,21 +186,13 @@ impl Machine {
         let tables = self.tables;
         let number = self.drop_number(side, g, u, v);
         if number != 0 {
-            return Out {
-                number,
-                word: 0,
-                tables,
-            };
+            return machine::wordless(number, tables);
         }
         let map = parts::map_of(tables, side);
         let mut tlb = parts::tlb_of(tables, side);
         search::wipe(&mut tlb, Want::Key(entries::key_of(u, g, v)));
         let next = parts::with_walk(tables, side, map, tlb);
-        Out {
-            number: 0,
-            word: 0,
-            tables: next,
-        }
+        machine::wordless(0, next)
     }
 
     // 1b

@@ -25,11 +25,7 @@ impl Referee {
         ensures { λ r. ⌜ r ≡ record { number = number; word = 0; tables = self .tables } ⌝ }
     {
         let tables = self.tables;
-        Out {
-            number,
-            word: 0,
-            tables,
-        }
+        machine::wordless(number, tables)
     }
 
     // Kinds 01 to 05.

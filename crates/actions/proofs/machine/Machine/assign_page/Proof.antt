@@ -1,6 +1,6 @@
 -- `actions::machine::Machine::assign_page` meets its contract.
 use mathlib.Core.Path.{refl}
-use Rattle.actions.proofs.Answers.{refuses, accepts, guest-below}
+use Rattle.actions.proofs.Answers.{refusing, accepting, guest-below}
 use borrow.Author.Needs.{needs}
 use Rattle.actions.proofs.machine.Machine.assign_page.Statement.{statement}
 use Rattle.actions.proofs.machine.Machine.assign_page.Tie as tie
@@ -10,18 +10,16 @@ assign-page-spec =
     tie.close
     (tie.spec
     (λ c κs. search needs)
-    (λ c. refuses _ _ (c .before .assign-page-number .ensures) (c .if1 .taken) _)
+    (λ c κs. search needs)
+    (λ c. refusing _ _ (c .before .before .assign-page-number .ensures) (c .wordless .ensures) (c .before .if1 .taken) _)
+    (λ c κs. search needs)
     (λ c κs. search needs)
     (λ c κs. search needs)
     (λ c κs. search needs)
     (λ c. search needs)
-    (λ c. rw (c .before .before .before .before .clear-page .ensures)
-    (accepts _ _ (c .before .before .before .before .before .before .before .assign-page-number .ensures)
-    (c .before .before .before .before .before .before .if1 .left)
-    (rw (
-      c .hold .ensures,
-      c .before .holder .ensures
-          (guest-below _ _ (c .before .before .before .before .before .before .before .assign-page-number .ensures)
-          (c .before .before .before .before .before .before .if1 .left)
-          (c .before .before .before .before .before .before .before .before .before .before .args .g) _ refl),
-    )) _)))
+    (λ c.
+    let passed = c .before .before .before .before .before .before .before in
+    let number = passed .before .assign-page-number .ensures in
+    let below = guest-below _ _ number (passed .if1 .left) (passed .before .before .before .before .args .g) _ refl in
+    rw (c .before .before .before .before .before .clear-page .ensures)
+    (accepting _ _ number (c .wordless2 .ensures) (passed .if1 .left) (rw (c .before .hold .ensures, c .before .before .holder .ensures below)) _ refl)))

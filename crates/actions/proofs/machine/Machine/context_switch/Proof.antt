@@ -1,6 +1,8 @@
 -- `actions::machine::Machine::context_switch` meets its contract.
+use Prim.Native.Nat.{ℕ}
+use mathlib.Core.List.{List}
 use mathlib.Core.Path.{refl}
-use Rattle.actions.proofs.Answers.{refuses, accepts, guest-below}
+use Rattle.actions.proofs.Answers.{refusing, accepting, guest-below}
 use borrow.Author.Needs.{needs}
 use Rattle.actions.proofs.machine.Machine.context_switch.Statement.{statement}
 use Rattle.actions.proofs.machine.Machine.context_switch.Tie as tie
@@ -10,14 +12,14 @@ context-switch-spec =
     tie.close
     (tie.spec
     (λ c κs. search needs)
-    (λ c. refuses _ _ (c .before .context-switch-number .ensures) (c .if1 .taken))
+    (λ c κs. search needs)
+    (λ c. refusing _ _ (c .before .before .context-switch-number .ensures) (c .wordless .ensures) (c .before .if1 .taken))
     (λ c. search needs)
     (λ c κs. search needs)
     (λ c κs. search needs)
-    (λ c. accepts _ _ (c .before .before .before .before .before .before .context-switch-number .ensures) (c .before .before .before .before .before .if1 .left)
-    (rw (
-      c .before .set-byte .ensures,
-      c .before .before .holder .ensures
-          (guest-below _ _ (c .before .before .before .before .before .before .context-switch-number .ensures)
-          (c .before .before .before .before .before .if1 .left) (c .before .before .before .before .before .before .before .before .args .g) _ refl),
-    ))))
+    (λ c κs. search needs)
+    (λ c. λ (ws : List ℕ).
+    let passed = c .before .before .before .before .before .before in
+    let number = passed .before .context-switch-number .ensures in
+    let below = guest-below _ _ number (passed .if1 .left) (passed .before .before .before .args .g) _ refl in
+    accepting _ _ number (c .wordless2 .ensures) (passed .if1 .left) (rw (c .before .before .set-byte .ensures, c .before .before .before .holder .ensures below)) ws refl))

@@ -1,5 +1,8 @@
 -- `actions::machine::Machine::iommu_reclaim_page` meets its contract.
-use Rattle.actions.proofs.Answers.{refuses, accepts}
+use Prim.Native.Nat.{ℕ}
+use mathlib.Core.List.{List}
+use mathlib.Core.Path.{refl}
+use Rattle.actions.proofs.Answers.{refusing, accepting}
 use borrow.Author.Needs.{needs}
 use Rattle.actions.proofs.machine.Machine.iommu_reclaim_page.Statement.{statement}
 use Rattle.actions.proofs.machine.Machine.iommu_reclaim_page.Tie as tie
@@ -9,6 +12,10 @@ iommu-reclaim-page-spec =
     tie.close
     (tie.spec
     (λ c κs. search needs)
-    (λ c. refuses _ _ (c .before .iommu-reclaim-page-number .ensures) (c .if1 .taken))
     (λ c κs. search needs)
-    (λ c. accepts _ _ (c .before .before .iommu-reclaim-page-number .ensures) (c .before .if1 .left) (c .hold .ensures)))
+    (λ c. refusing _ _ (c .before .before .iommu-reclaim-page-number .ensures) (c .wordless .ensures) (c .before .if1 .taken))
+    (λ c κs. search needs)
+    (λ c κs. search needs)
+    (λ c. λ (ws : List ℕ). accepting _ _ (c .before .before .before .iommu-reclaim-page-number .ensures)
+    (c .wordless2 .ensures) (c .before .before .if1 .left)
+    (c .before .hold .ensures) ws refl))

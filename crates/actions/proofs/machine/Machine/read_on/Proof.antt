@@ -17,6 +17,7 @@ read-on-spec =
     (λ c κs. search needs)
     (λ c κs. search needs)
     (λ c. let start = c .before .before .before .before .before .before .before .before .before .before .before .before .before .args in
+    let tlb = c .before .before .before .before .before .before .before .before .before in
     observed-by (start .self .tables) (Read (start .side) (start .ask .guest) (start .ask .unit) (start .ask .address)) _ refl
-    (c .beside .ensures) (rw (c .before .before .before .before .before .before .before .before .before .tlb-of .ensures, c .before .before .before .before .before .before .before .before .before .before .map-of .ensures) at (c .before .read .ensures)
+    (c .beside .ensures) (rw (tlb .tlb-of .ensures, tlb .before .map-of .ensures) at (c .before .read .ensures)
     ∙ read-from (start .self .tables) (start .ask .guest) (start .ask .unit) (start .ask .address) _ (start .side))))

@@ -1,5 +1,8 @@
 -- `actions::machine::Machine::unshare_page` meets its contract.
-use Rattle.actions.proofs.Answers.{refuses, accepts}
+use Prim.Native.Nat.{ℕ}
+use mathlib.Core.List.{List}
+use mathlib.Core.Path.{refl}
+use Rattle.actions.proofs.Answers.{refusing, accepting}
 use borrow.Author.Needs.{needs}
 use Rattle.actions.proofs.machine.Machine.unshare_page.Statement.{statement}
 use Rattle.actions.proofs.machine.Machine.unshare_page.Tie as tie
@@ -9,8 +12,11 @@ unshare-page-spec =
     tie.close
     (tie.spec
     (λ c κs. search needs)
-    (λ c. refuses _ _ (c .before .unshare-page-number .ensures) (c .if1 .taken))
+    (λ c κs. search needs)
+    (λ c. refusing _ _ (c .before .before .unshare-page-number .ensures) (c .wordless .ensures) (c .before .if1 .taken))
     (λ c. search needs)
     (λ c κs. search needs)
-    (λ c. accepts _ _ (c .before .before .before .before .before .unshare-page-number .ensures) (c .before .before .before .before .if1 .left)
-    (rw (c .before .wipe .ensures))))
+    (λ c κs. search needs)
+    (λ c. λ (ws : List ℕ). accepting _ _ (c .before .before .before .before .before .before .unshare-page-number .ensures)
+    (c .wordless2 .ensures) (c .before .before .before .before .before .if1 .left)
+    (rw (c .before .before .wipe .ensures)) ws refl))

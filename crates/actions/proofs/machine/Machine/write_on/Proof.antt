@@ -18,6 +18,7 @@ write-on-spec =
     (λ c κs. search needs)
     (λ c. search needs)
     (λ c. let start = c .before .before .before .before .before .before .before .before .before .before .before .before .before .before .before .before .args in
+    let tlb = c .before .before .before .before .before .before .before .before .before .before .before .before in
     observed-by (start .self .tables) (Write (start .side) (start .ask .guest) (start .ask .unit) (start .ask .address) (start .word)) _ refl
-    (c .beside .ensures) (rw (c .before .before .before .before .before .before .before .before .before .before .before .before .tlb-of .ensures, c .before .before .before .before .before .before .before .before .before .before .before .before .before .map-of .ensures) at (c .before .before .before .write .ensures)
+    (c .beside .ensures) (rw (tlb .tlb-of .ensures, tlb .before .map-of .ensures) at (c .before .before .before .write .ensures)
     ∙ write-from (start .self .tables) (start .ask .guest) (start .ask .unit) (start .ask .address) _ (start .word) (start .side))))
