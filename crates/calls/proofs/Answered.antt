@@ -2,60 +2,25 @@
 -- 0 and leaves every table entry, word and answer place as it was; and no second answer could satisfy a contract. That each call ends,
 -- whatever it is given, is part of its proof: none has a `requires`.
 use mathlib.Core.Path.{_≡_, refl, sym, ap, _∙_}
-use mathlib.Core.Bool.{Bool, true, false}
+use mathlib.Core.Bool.{Bool, true}
 use mathlib.Core.List.{List, []}
 use Prim.Native.Nat.{ℕ, suc, _≤_}
 use native.Mathlib.Omega.{arith}
-use lib.Dec.{eqb, leb}
-use borrow.Author.Tests.{leb-true}
+use lib.Dec.{eqb}
 use Rattle.numbers.specs.Tests.{_and_}
 use Rattle.numbers.specs.Rules.{Rules, least}
-use Rattle.numbers.specs.Rules.Rules.{accept, _⇒_∣_}
-use Rattle.numbers.specs.Frames.{decode, frame-rules}
+use Rattle.numbers.specs.Frames.{decode}
 use Rattle.numbers.specs.declared.frames.Action.{Action}
-use Rattle.numbers.proofs.Bools.{split, and-l, and-r}
+use Rattle.numbers.proofs.Bools.{split}
 use Rattle.tables.specs.declared.state.Tables.{Tables}
 use Rattle.rules.specs.Actions.{Op, refusals, Outcome, outcome, acted}
-use Rattle.rules.specs.Actions.Op.{Read, Write, HyperCall, AddVm, RemoveVm, AssignPage, ReclaimPage, SharePage, UnsharePage, Map, Unmap, ContextSwitch, Idle, Fill, Drop, IommuAssignPage, IommuReclaimPage}
 use Rattle.rules.specs.Calls.{op-of, _then_, action-rules, taken, act-rules, act, Machine, refused, run-rules, listed, answer}
-use Rattle.rules.specs.Calls.{after as after-list}
 use Rattle.rules.specs.Calls as calls
-use Rattle.rules.proofs.Lowest.{Lowest, lowest, lowest-action, lowest-act, Unchanged, refused-changes-nothing, refused-list-changes-nothing}
+use Rattle.rules.proofs.Lowest.{at-most, least-at-most, up-to-15, Lowest, lowest, lowest-action, lowest-act, refused-changes-nothing, refused-list-changes-nothing}
 use Rattle.actions.specs.Answers.{after}
 use Rattle.actions.specs.declared.machine.Out.{Out}
 use Rattle.calls.specs.Lists.{ended}
 use Rattle.calls.specs.declared.lists.Ran.{Ran}
-
--- ── the numbers of a list of refusals ──
-abbrev at-most : ℕ → Rules → Bool
-at-most n accept = true
-at-most n (bad ⇒ k ∣ later) = leb k n and at-most n later
-
-least-at-most : (n : ℕ) (rules : Rules) → at-most n rules ≡ true → least rules ≤ n
-unfolding least
-least-at-most n accept e = omega arith
-least-at-most n (true ⇒ k ∣ later) e = leb-true k n (and-l _ _ e)
-least-at-most n (false ⇒ k ∣ later) e = least-at-most n later (and-r _ _ e)
-
-fifteen : (m : Tables) (o : Op) → at-most 15 (refusals m o) ≡ true
-unfolding _and_
-fifteen m (Read d g u a) = refl
-fifteen m (Write d g u a w) = refl
-fifteen m (HyperCall g u w) = refl
-fifteen m (AddVm g) = refl
-fifteen m (RemoveVm g) = refl
-fifteen m (AssignPage g p) = refl
-fifteen m (ReclaimPage g p) = refl
-fifteen m (SharePage l r p) = refl
-fifteen m (UnsharePage l r p) = refl
-fifteen m (Map d g v p x) = refl
-fifteen m (Unmap d g v) = refl
-fifteen m (ContextSwitch g u) = refl
-fifteen m (Idle u) = refl
-fifteen m (Fill d g u v) = refl
-fifteen m (Drop d g u v) = refl
-fifteen m (IommuAssignPage g p) = refl
-fifteen m (IommuReclaimPage g p) = refl
 
 -- ── one action, one frame ──
 -- what is left of a call: the answer r, and the memory vs
@@ -84,19 +49,19 @@ module _ (m : Tables) (o : Op) (ws : List ℕ) (r : Out) (vs : List ℕ) where
 
   -- each of the 23 methods
   pub method-answered : after r vs ≡ acted m o ws → Answered (refusals m o) m ws r vs
-  method-answered e = answered (refusals m o) (fifteen m o) (lowest m o) e
+  method-answered e = answered (refusals m o) (up-to-15 m o) (lowest m o) e
 
 module _ (m : Tables) (ws : List ℕ) (r : Out) (vs : List ℕ) where
   -- `take`: a decoded action
   pub take-answered : (a : Action) → after r vs ≡ taken m a ws → Answered (action-rules m a) m ws r vs
   unfolding _then_ _and_
-  take-answered a e = answered m (op-of a) ws r vs (action-rules m a) (fifteen m (op-of a)) (lowest-action m a) e
+  take-answered a e = answered m (op-of a) ws r vs (action-rules m a) (up-to-15 m (op-of a)) (lowest-action m a) e
 
   -- `act`: any bytes
   pub act-answered : (frame : List ℕ) → after r vs ≡ act m frame ws → Answered (act-rules m frame ws) m ws r vs
   unfolding act _then_ _and_
   act-answered frame e =
-      answered m (op-of (decode frame)) ws r vs (act-rules m frame ws) (fifteen m (op-of (decode frame))) (lowest-act m frame ws) e
+      answered m (op-of (decode frame)) ws r vs (act-rules m frame ws) (up-to-15 m (op-of (decode frame))) (lowest-act m frame ws) e
 
 -- ── a list ──
 module _ (odd : Bool) (f : ℕ → Action) (n : ℕ) (s : Machine) (numbers words : List ℕ) where
@@ -118,13 +83,13 @@ module _ (odd : Bool) (f : ℕ → Action) (n : ℕ) (s : Machine) (numbers word
 
 -- each action of it is answered as `take` answers, and a refused one leaves tables and memory to the next
 module _ (f : ℕ → Action) (s : Machine) (i : ℕ) where
-  pub each-answered : Answered (action-rules (after-list f i s .tables) (f i)) (after-list f i s .tables) (after-list f i s .memory)
+  pub each-answered : Answered (action-rules (calls.after f i s .tables) (f i)) (calls.after f i s .tables) (calls.after f i s .memory)
       (record { number = answer f s i .number; word = answer f s i .word; tables = answer f s i .tables }) (answer f s i .memory)
   unfolding answer
   each-answered = take-answered _ _ _ _ (f i) refl
 
-  pub each-next : (after-list f (suc i) s .tables ≡ answer f s i .tables) × (after-list f (suc i) s .memory ≡ answer f s i .memory)
-  unfolding answer after-list
+  pub each-next : (calls.after f (suc i) s .tables ≡ answer f s i .tables) × (calls.after f (suc i) s .memory ≡ answer f s i .memory)
+  unfolding answer calls.after
   each-next = (refl, refl)
 
 -- ── no second answer ──

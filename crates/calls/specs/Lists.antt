@@ -13,7 +13,6 @@ use Rattle.tables.specs.Wf.{wf}
 use Rattle.tables.specs.declared.state.Tables.{Tables}
 use Rattle.rules.specs.Calls.{taken}
 use Rattle.rules.specs.Calls as calls
-use Rattle.actions.specs.Lent.{Observed}
 use Rattle.calls.specs.declared.lists.Plan.{Plan}
 use Rattle.calls.specs.declared.lists.Ran.{Ran}
 
@@ -37,15 +36,6 @@ handled a i l =
 unfoldable pub went : (ℕ → Action) → ℕ → Left → Left
 went f zero l = l
 went f (suc n) l = handled (f n) n (went f n l)
-
--- the same from what is observed of it, where the tables stay as they are
-pub record Noted : Type 0 where
-  pub memory : List ℕ
-  pub numbers : List ℕ
-  pub words : List ℕ
-
-abbrev pub noted : Observed → ℕ → List ℕ → List ℕ → Noted
-noted o i numbers words = record { memory = o .memory; numbers = set numbers i (o .number); words = set words i (o .word) }
 
 -- the list's own number, from the lengths of what is lent, and how many actions are handled
 abbrev pub own-rules : Bool → ℕ → Tables → ℕ → ℕ → ℕ → Rules

@@ -5,8 +5,8 @@ use mathlib.Core.List.{List}
 use mathlib.Core.Logic.{_↔_, _⊎_}
 use Prim.Native.Nat.{ℕ, _≤_, _<_}
 use native.Mathlib.Omega.{arith}
-use lib.Dec.{eqb}
-use borrow.Author.Tests.{eqb-true, ne-eqb, ltb-true}
+use lib.Dec.{eqb, leb}
+use borrow.Author.Tests.{eqb-true, ne-eqb, ltb-true, leb-true}
 use Rattle.numbers.specs.Tests.{_and_, isnt}
 use Rattle.numbers.specs.Rules.{Rules, least}
 use Rattle.numbers.specs.Rules.Rules.{accept, _⇒_∣_}
@@ -19,26 +19,42 @@ use Rattle.rules.specs.Actions.{Op, refusals, accepted, next, does, Outc
 use Rattle.rules.specs.Actions.Op.{Read, Write, HyperCall, AddVm, RemoveVm, AssignPage, ReclaimPage, SharePage, UnsharePage, Map, Unmap, ContextSwitch, Idle, Fill, Drop, IommuAssignPage, IommuReclaimPage}
 use Rattle.rules.specs.Calls.{op-of, _then_, action-rules, act-rules, Machine, run-rules, refused, listed}
 
--- ── refusals stand in rising order: the numbers alone say so ──
-pub rising-refusals : (m : Tables) (o : Op) → rising 4 (refusals m o) ≡ true
+-- ── refusals stand in rising order, up to 15: the numbers alone say so ──
+abbrev pub at-most : ℕ → Rules → Bool
+at-most n accept = true
+at-most n (bad ⇒ k ∣ later) = leb k n and at-most n later
+
+pub least-at-most : (n : ℕ) (rules : Rules) → at-most n rules ≡ true → least rules ≤ n
+unfolding least
+least-at-most n accept e = omega arith
+least-at-most n (true ⇒ k ∣ later) e = leb-true k n (and-l _ _ e)
+least-at-most n (false ⇒ k ∣ later) e = least-at-most n later (and-r _ _ e)
+
+in-order : (m : Tables) (o : Op) → (rising 4 (refusals m o) ≡ true) × (at-most 15 (refusals m o) ≡ true)
 unfolding rising _and_
-rising-refusals m (Read d g u a) = refl
-rising-refusals m (Write d g u a w) = refl
-rising-refusals m (HyperCall g u w) = refl
-rising-refusals m (AddVm g) = refl
-rising-refusals m (RemoveVm g) = refl
-rising-refusals m (AssignPage g p) = refl
-rising-refusals m (ReclaimPage g p) = refl
-rising-refusals m (SharePage l r p) = refl
-rising-refusals m (UnsharePage l r p) = refl
-rising-refusals m (Map d g v p x) = refl
-rising-refusals m (Unmap d g v) = refl
-rising-refusals m (ContextSwitch g u) = refl
-rising-refusals m (Idle u) = refl
-rising-refusals m (Fill d g u v) = refl
-rising-refusals m (Drop d g u v) = refl
-rising-refusals m (IommuAssignPage g p) = refl
-rising-refusals m (IommuReclaimPage g p) = refl
+in-order m (Read d g u a) = (refl, refl)
+in-order m (Write d g u a w) = (refl, refl)
+in-order m (HyperCall g u w) = (refl, refl)
+in-order m (AddVm g) = (refl, refl)
+in-order m (RemoveVm g) = (refl, refl)
+in-order m (AssignPage g p) = (refl, refl)
+in-order m (ReclaimPage g p) = (refl, refl)
+in-order m (SharePage l r p) = (refl, refl)
+in-order m (UnsharePage l r p) = (refl, refl)
+in-order m (Map d g v p x) = (refl, refl)
+in-order m (Unmap d g v) = (refl, refl)
+in-order m (ContextSwitch g u) = (refl, refl)
+in-order m (Idle u) = (refl, refl)
+in-order m (Fill d g u v) = (refl, refl)
+in-order m (Drop d g u v) = (refl, refl)
+in-order m (IommuAssignPage g p) = (refl, refl)
+in-order m (IommuReclaimPage g p) = (refl, refl)
+
+pub rising-refusals : (m : Tables) (o : Op) → rising 4 (refusals m o) ≡ true
+rising-refusals m o = in-order m o .0
+
+pub up-to-15 : (m : Tables) (o : Op) → at-most 15 (refusals m o) ≡ true
+up-to-15 m o = in-order m o .1
 
 pub rising-action : (m : Tables) (a : Action) → rising 3 (action-rules m a) ≡ true
 unfolding rising _then_ _and_
