@@ -5,8 +5,8 @@ use mathlib.Core.Path.{_≡_, refl, sym, ap, _∙_}
 use mathlib.Core.Bool.{Bool, true}
 use mathlib.Core.List.{List, []}
 use Prim.Native.Nat.{ℕ, suc, _≤_}
-use native.Mathlib.Omega.{arith}
 use lib.Dec.{eqb}
+use borrow.Author.Tests.{eqb-true}
 use Rattle.numbers.specs.Tests.{_and_}
 use Rattle.numbers.specs.Rules.{Rules, least}
 use Rattle.numbers.specs.Frames.{decode}
@@ -16,7 +16,7 @@ use Rattle.tables.specs.declared.state.Tables.{Tables}
 use Rattle.rules.specs.Actions.{Op, refusals, Outcome, outcome, acted}
 use Rattle.rules.specs.Calls.{op-of, _then_, action-rules, taken, act-rules, act, Machine, refused, run-rules, listed, answer}
 use Rattle.rules.specs.Calls as calls
-use Rattle.rules.proofs.Lowest.{at-most, least-at-most, up-to-15, Lowest, lowest, lowest-action, lowest-act, refused-changes-nothing, refused-list-changes-nothing}
+use Rattle.rules.proofs.Lowest.{at-most, least-at-most, up-to-15, Lowest, lowest, lowest-action, lowest-act, lowest-run, refused-changes-nothing, refused-list-changes-nothing}
 use Rattle.actions.specs.Answers.{after}
 use Rattle.actions.specs.declared.machine.Out.{Out}
 use Rattle.calls.specs.Lists.{ended}
@@ -65,19 +65,22 @@ module _ (m : Tables) (ws : List ℕ) (r : Out) (vs : List ℕ) where
 
 -- ── a list ──
 module _ (odd : Bool) (f : ℕ → Action) (n : ℕ) (s : Machine) (numbers words : List ℕ) where
-  -- its own number is 0, 1 or 2
-  own-at-most : listed odd f n s numbers words .number ≤ 2
-  unfolding _and_
-  own-at-most = split (eqb (least (run-rules odd n s numbers words)) 0)
-      (λ t. rw t (omega arith))
-      (λ t. rw t (least-at-most 2 (run-rules odd n s numbers words) refl))
+  -- its own number is the one that its refusals give
+  own : listed odd f n s numbers words .number ≡ least (run-rules odd n s numbers words)
+  own = split (eqb (least (run-rules odd n s numbers words)) 0)
+      (λ t. rw t (sym (eqb-true _ _ t)))
+      (λ t. rw t)
 
-  -- `run` and `run_actions`: a list that is refused whole handles nothing and writes nothing
+  -- `run` and `run_actions`: 0, 1 or 2, the lowest that applies; a list that is refused whole handles nothing and writes nothing
   pub list-answered : (r : Ran) (vs ns xs : List ℕ) → ended r vs ns xs ≡ listed odd f n s numbers words →
-      (r .number ≤ 2) × ((r .number ≡ 0 → ⊥) → ended r vs ns xs ≡ refused (r .number) s numbers words)
+      (r .number ≤ 2) × (r .number ≡ least (run-rules odd n s numbers words)) × Lowest (run-rules odd n s numbers words)
+      × ((r .number ≡ 0 → ⊥) → ended r vs ns xs ≡ refused (r .number) s numbers words)
+  unfolding _and_
   list-answered r vs ns xs e =
       let k : r .number ≡ listed odd f n s numbers words .number = ap (λ (x : calls.Ran). x .number) e in (
-        rw k own-at-most,
+        rw (k ∙ own) (least-at-most 2 (run-rules odd n s numbers words) refl),
+        k ∙ own,
+        lowest-run odd n s numbers words,
         λ h. e ∙ refused-list-changes-nothing odd f n s numbers words (λ z. h (k ∙ z)) ∙ ap (λ (j : ℕ). refused j s numbers words) (sym k),
       )
 
