@@ -1,5 +1,5 @@
 -- An access: what the tables' lookup finds is what the source's state translates to, and leads into memory.
-use mathlib.Core.Path.{_≡_, refl, sym, _∙_}
+use mathlib.Core.Path.{_≡_, refl, sym, _∙_, ap}
 use mathlib.Core.Bool.{Bool, true, false, cond}
 use mathlib.Core.List.{List}
 use mathlib.Core.Logic.{_↔_}
@@ -11,18 +11,18 @@ use Rattle.numbers.specs.Frames.{off}
 use Rattle.numbers.specs.Addresses.{page-of, offset-of, word-of}
 use Rattle.numbers.specs.Entries.{key-of, page-in, access-in, readable, writable}
 use Rattle.numbers.proofs.Bools.{split, and-no-l, or-l, or-r, isnt-no, isnt-i}
+use Rattle.numbers.proofs.AddressLaws.{lemma-page-word-roundtrip, offset-below}
 use Rattle.numbers.proofs.EntryLaws.{page-at-unit, access-at-unit, at-unit-live}
 use Rattle.tables.specs.Table.{live, find}
 use Rattle.tables.specs.Wants.{W, has-key}
 use Rattle.tables.specs.State.{map-of, tlb-of, effective-entry, found, nothing, can-read, can-write}
 use Rattle.tables.specs.Wf.{Wf}
-use Rattle.tables.specs.Views.{view, entry-at}
+use Rattle.tables.specs.Views.{MachineState, SourceWf, view}
 use Rattle.tables.specs.declared.state.Tables.{Tables}
 use Rattle.tables.specs.declared.state.Side.{Side}
 use Rattle.tables.proofs.TableLaws.{each-find, live-find}
 use Rattle.tables.proofs.WantLaws.{zero-free, live-pos}
 use Rattle.tables.proofs.ViewLaws.{Keyed, entry-in}
-use Rattle.tables.proofs.SourceWf.{source-wf}
 use Rattle.rules.specs.Actions.{word-at}
 use Rattle.rules.proofs.Ranges.{below}
 use Rattle.rules.proofs.Walks.{some-unit}
@@ -98,9 +98,11 @@ can-write-is e = split (live W e) (λ l. rw l (sym (true-and (writable e)))) (λ
 pub word-at-is : (e a : ℕ) → live W e ≡ true → word-at (found e) a ≡ word-of (page-in e) (offset-of a)
 word-at-is e a l = rw l
 
+-- the word is on the page of the entry
+pub word-at-page : (e a : ℕ) → live W e ≡ true → page-of (word-at (found e) a) ≡ page-in e
+word-at-page e a l = ap page-of (word-at-is e a l) ∙ lemma-page-word-roundtrip (page-in e) (offset-of a) (offset-below a)
+
 -- ── in good order a TLB shows nothing that the map does not: every translation is the map's ──
-pub translation-is-the-map's : (d : Side) (m : Tables) (ws : List ℕ) (u g v : ℕ) → Wf m →
-    Rattle.rules.specs.Source.effective-entry d (view m ws) u g v ≡ view m ws .s2-map d g v
-translation-is-the-map's d m ws u g v h = by-cond (λ e. e ≡ view m ws .s2-map d g v) (live W (entry-at (tlb-of d m) u g v)) _ _
-    (λ t. source-wf m ws h .tlb-safe-2 d u g v t)
-    (λ t. refl)
+pub translation-is-the-map's : (d : Side) (s : MachineState) (u g v : ℕ) → SourceWf s →
+    Rattle.rules.specs.Source.effective-entry d s u g v ≡ s .s2-map d g v
+translation-is-the-map's d s u g v h = by-cond (λ e. e ≡ s .s2-map d g v) (live W (s .tlb d u g v)) _ _ (λ t. h .tlb-safe-2 d u g v t) (λ t. refl)

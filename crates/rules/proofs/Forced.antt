@@ -27,6 +27,7 @@ use Rattle.tables.specs.declared.state.Side.{Side}
 use Rattle.tables.specs.declared.state.Side.the-variants.{Cpu, Iommu}
 use Rattle.tables.proofs.TableLaws.{each-none, each-map, each-all, each-wipe, put-over, put-new, wipe-at, length-wipe}
 use Rattle.tables.proofs.WantLaws.{zero-free, of-guest-agrees, of-gpage-agrees}
+use Rattle.tables.proofs.SourceWf.{source-wf}
 use Rattle.tables.proofs.ViewLaws.{Keyed, guest-is, gpage-is}
 use Rattle.rules.specs.Actions.{absent, holds, dma-holds, leans, refusals, effect, clear-page, next, does, accepted, acted}
 use Rattle.rules.specs.Actions.Op.{AssignPage, ReclaimPage, SharePage, UnsharePage, Map, Unmap, Fill, Drop, IommuAssignPage}
@@ -161,8 +162,8 @@ same-maps Iommu Iommu m tlb = refl
 module _ (m : Tables) (h : Wf m) (ws : List ℕ) (d e : Side) (g u v : ℕ) (t k w : ℕ) where
   unseen : (tlb : List ℕ) → Wf (with-walk d m (map-of d m) tlb) →
       effective-entry e (view (with-walk d m (map-of d m) tlb) ws) t k w ≡ effective-entry e (view m ws) t k w
-  unseen tlb after = translation-is-the-map's e (with-walk d m (map-of d m) tlb) ws t k w after
-      ∙ ap (λ (map : List ℕ). entry-at map 0 k w) (same-maps d e m tlb) ∙ sym (translation-is-the-map's e m ws t k w h)
+  unseen tlb after = translation-is-the-map's e (view (with-walk d m (map-of d m) tlb) ws) t k w (source-wf _ ws after)
+      ∙ ap (λ (map : List ℕ). entry-at map 0 k w) (same-maps d e m tlb) ∙ sym (translation-is-the-map's e (view m ws) t k w (source-wf m ws h))
 
   pub fill-unseen : accepted (refusals m (Fill d g u v)) ≡ true →
       effective-entry e (view (effect m (Fill d g u v)) ws) t k w ≡ effective-entry e (view m ws) t k w

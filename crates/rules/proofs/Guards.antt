@@ -29,7 +29,7 @@ use Rattle.tables.proofs.TableLaws.{find-passes, each-find}
 use Rattle.tables.proofs.WantLaws.{to-page-agrees}
 use Rattle.tables.proofs.ViewLaws.{Keyed, entry-keyed, entry-there, there-entry, turned, reach-agrees}
 use Rattle.tables.proofs.SourceWf.{source-wf}
-use Rattle.rules.specs.Actions.{refusals, accepted, holds, leans, named, another}
+use Rattle.rules.specs.Actions.{refusals, accepted, elsewhere, holds, leans, named, another}
 use Rattle.rules.specs.Actions.Op.{Read, Write, HyperCall, AddVm, RemoveVm, AssignPage, ReclaimPage, SharePage, UnsharePage, Map, Unmap, ContextSwitch, IommuAssignPage, IommuReclaimPage}
 use Rattle.rules.specs.Source.{observation, effective-entry, vm-read-guards, vm-write-guards, vm-hypercall-guards, map-guards, unmap-guards, hv-iommu-assign-page-guards, hv-iommu-reclaim-page-guards, hv-assign-page-guards, hv-reclaim-page-guards, hv-share-page-guards, hv-unshare-page-guards, hv-context-switch-guards, hv-add-vm-guards, hv-remove-vm-guards, empty-set}
 use Rattle.rules.proofs.Lowest.{accepted-passes, accepted-clear}
@@ -78,68 +78,88 @@ module _ {m : Tables} (h : Wf m) (ws : List ℕ) (lw : length ws ≡ memory-word
       let al = entries-alike d m ws u g v k in
       rw lw (word-below pages _ _ (subst (λ (n : ℕ). n < pages) (al .page) (found-page d m ws u g v h (al .alive ∙ l))) (offset-below a))
 
-  -- what the guards of an access say, and what its refusals do
-  module _ (g u a : ℕ) where
+  -- ── an access, on either side: what its refusals leave, said of the source's state ──
+  module _ (d : Side) (g u a : ℕ) where
+    -- what the tables' lookup finds, and what the state translates to
     e : ℕ
-    e = Rattle.tables.specs.State.effective-entry (m .map) (m .tlb) u g (page-of a)
+    e = Rattle.tables.specs.State.effective-entry (map-of d m) (tlb-of d m) u g (page-of a)
 
     f : ℕ
-    f = effective-entry Cpu (view m ws) u g (page-of a)
+    f = effective-entry d (view m ws) u g (page-of a)
 
     in-ranges : Keyed u g (page-of a) → (off g guests or off u units or off a guest-words) ≡ false
     in-ranges k = or-no (in-range _ _ (k .guest)) (or-no (in-range _ _ (k .unit)) (in-range _ _ (address-page a .1 (k .gpage))))
 
     alike : Keyed u g (page-of a) → Alike e f
     unfolding e f
-    alike k = entries-alike Cpu m ws u g (page-of a) k
+    alike k = entries-alike d m ws u g (page-of a) k
 
-    pub read-accepted : accepted (refusals m (Read Cpu g u a)) ≡ true ↔ ((is-present m g ≡ true) × vm-read-guards (view m ws) g u a)
+    -- the guest is present, its CPU runs it, and there is a translation
+    abbrev pub Reached : Type 0
+    Reached = (is-present m g ≡ true) × (elsewhere d m u g ≡ false) × (u < units) × (live W (effective-entry d (view m ws) u g (page-of a)) ≡ true)
+
+    pub reads-when : accepted (refusals m (Read d g u a)) ≡ true ↔ (Reached × (readable (effective-entry d (view m ws) u g (page-of a)) ≡ true))
     unfolding e f
-    read-accepted = (
+    reads-when = (
       λ q.
-          let c = accepted-clear m (Read Cpu g u a) q in let k = access-keyed g u a (c 4) in
+          let c = accepted-clear m (Read d g u a) q in let k = access-keyed g u a (c 4) in
           let z : (live W e and readable e) ≡ true = sym (can-read-is e) ∙ isnt-false _ (c 10) in
-          let l : live W f ≡ true = sym (alike k .alive) ∙ and-l _ _ z in (
-            isnt-false _ (c 6),
+          ((isnt-false _ (c 6), c 8, k .unit, sym (alike k .alive) ∙ and-l _ _ z), sym (readable-alike (alike k)) ∙ and-r _ _ z),
+      λ q.
+          let k = source-keyed d u g (page-of a) (q .0 .2) (q .0 .3) in
+          let l : live W e ≡ true = alike k .alive ∙ q .0 .3 in
+          accepted-passes m (Read d g u a) .1
+          (and-i (isnt-i (in-ranges k)) (and-i (isnt-i (isnt-no (q .0 .0))) (and-i (isnt-i (q .0 .1)) (and-i (isnt-i (nothing-is e ∙ isnt-no l))
+          (and-i (isnt-i (isnt-no (can-read-is e ∙ and-i l (readable-alike (alike k) ∙ q .1)))) refl))))),
+    )
+
+    pub writes-when : (w : ℕ) → accepted (refusals m (Write d g u a w)) ≡ true ↔ (Reached × (writable (effective-entry d (view m ws) u g (page-of a)) ≡ true))
+    unfolding e f
+    writes-when w = (
+      λ q.
+          let c = accepted-clear m (Write d g u a w) q in let k = access-keyed g u a (c 4) in
+          let z : (live W e and writable e) ≡ true = sym (can-write-is e) ∙ isnt-false _ (c 10) in
+          ((isnt-false _ (c 6), c 8, k .unit, sym (alike k .alive) ∙ and-l _ _ z), sym (writable-alike (alike k)) ∙ and-r _ _ z),
+      λ q.
+          let k = source-keyed d u g (page-of a) (q .0 .2) (q .0 .3) in
+          let l : live W e ≡ true = alike k .alive ∙ q .0 .3 in
+          accepted-passes m (Write d g u a w) .1
+          (and-i (isnt-i (in-ranges k)) (and-i (isnt-i (isnt-no (q .0 .0))) (and-i (isnt-i (q .0 .1)) (and-i (isnt-i (nothing-is e ∙ isnt-no l))
+          (and-i (isnt-i (isnt-no (can-write-is e ∙ and-i l (writable-alike (alike k) ∙ q .1)))) refl))))),
+    )
+
+  module _ (g u a : ℕ) where
+    pub read-accepted : accepted (refusals m (Read Cpu g u a)) ≡ true ↔ ((is-present m g ≡ true) × vm-read-guards (view m ws) g u a)
+    read-accepted = let f = effective-entry Cpu (view m ws) u g (page-of a) in let at = word-of (page-in f) (offset-of a) in (
+      λ q.
+          let z = reads-when Cpu g u a .0 q in let l = z .0 .3 in (
+            z .0 .0,
             record {
               wf = source-wf m ws h;
-              runs = eqb-true _ _ (isnt-false _ (c 8));
-              observed = observed-is (live W f) (live W f and readable f) (word-of (page-in f) (offset-of a)) ws .1
-                  (l, and-i l (sym (readable-alike (alike k)) ∙ and-r _ _ z), in-memory Cpu u g (page-of a) a k l);
+              runs = eqb-true _ _ (isnt-false _ (z .0 .1));
+              observed = observed-is (live W f) (live W f and readable f) at ws .1
+                  (l, and-i l (z .1), in-memory Cpu u g (page-of a) a (source-keyed Cpu u g (page-of a) (z .0 .2) l) l);
             },
           ),
       λ q.
-          let o = observed-is (live W f) (live W f and readable f) (word-of (page-in f) (offset-of a)) ws .0 (q .1 .observed) in
-          let k = source-keyed Cpu u g (page-of a) (runs-below u g (q .1 .runs)) (o .0) in
-          let l : live W e ≡ true = alike k .alive ∙ o .0 in
-          accepted-passes m (Read Cpu g u a) .1
-          (and-i (isnt-i (in-ranges k)) (and-i (isnt-i (isnt-no (q .0))) (and-i (isnt-i (isnt-no (eq-eqb _ _ (q .1 .runs))))
-          (and-i (isnt-i (nothing-is e ∙ isnt-no l))
-          (and-i (isnt-i (isnt-no (can-read-is e ∙ and-i l (readable-alike (alike k) ∙ and-r _ _ (o .1))))) refl))))),
+          let o = observed-is (live W f) (live W f and readable f) at ws .0 (q .1 .observed) in
+          reads-when Cpu g u a .1 ((q .0, isnt-no (eq-eqb _ _ (q .1 .runs)), runs-below u g (q .1 .runs), o .0), and-r _ _ (o .1)),
     )
 
     pub write-accepted : (w : ℕ) → accepted (refusals m (Write Cpu g u a w)) ≡ true ↔ ((is-present m g ≡ true) × vm-write-guards (view m ws) g u a)
-    unfolding e f
-    write-accepted w = (
+    write-accepted w = let f = effective-entry Cpu (view m ws) u g (page-of a) in (
       λ q.
-          let c = accepted-clear m (Write Cpu g u a w) q in let k = access-keyed g u a (c 4) in
-          let z : (live W e and writable e) ≡ true = sym (can-write-is e) ∙ isnt-false _ (c 10) in
-          let l : live W f ≡ true = sym (alike k .alive) ∙ and-l _ _ z in (
-            isnt-false _ (c 6),
+          let z = writes-when Cpu g u a w .0 q in (
+            z .0 .0,
             record {
               wf = source-wf m ws h;
-              runs = eqb-true _ _ (isnt-false _ (c 8));
-              translated = some-is (live W f) (word-of (page-in f) (offset-of a)) .1 l;
-              allowed = and-i l (sym (writable-alike (alike k)) ∙ and-r _ _ z);
+              runs = eqb-true _ _ (isnt-false _ (z .0 .1));
+              translated = some-is (live W f) (word-of (page-in f) (offset-of a)) .1 (z .0 .3);
+              allowed = and-i (z .0 .3) (z .1);
             },
           ),
-      λ q.
-          let k = source-keyed Cpu u g (page-of a) (runs-below u g (q .1 .runs)) (and-l _ _ (q .1 .allowed)) in
-          let l : live W e ≡ true = alike k .alive ∙ and-l _ _ (q .1 .allowed) in
-          accepted-passes m (Write Cpu g u a w) .1
-          (and-i (isnt-i (in-ranges k)) (and-i (isnt-i (isnt-no (q .0))) (and-i (isnt-i (isnt-no (eq-eqb _ _ (q .1 .runs))))
-          (and-i (isnt-i (nothing-is e ∙ isnt-no l))
-          (and-i (isnt-i (isnt-no (can-write-is e ∙ and-i l (writable-alike (alike k) ∙ and-r _ _ (q .1 .allowed))))) refl))))),
+      λ q. writes-when Cpu g u a w .1
+          ((q .0, isnt-no (eq-eqb _ _ (q .1 .runs)), runs-below u g (q .1 .runs), and-l _ _ (q .1 .allowed)), and-r _ _ (q .1 .allowed)),
     )
 
   pub hypercall-accepted : (g u w : ℕ) →

@@ -12,6 +12,7 @@ pub mod Forced
 pub mod Accesses
 pub mod Quiescence
 pub mod Guards
+pub mod Devices
 pub mod Updates
 pub mod Effects
 pub mod Unique

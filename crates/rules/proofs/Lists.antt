@@ -60,15 +60,22 @@ after-wf f (suc n) s h = next-wf _ (f n) (after-wf f n s h)
 pub boot-after-wf : (f : ℕ → Action) (n hv rg : ℕ) (ws : List ℕ) → wf (after f n (record { tables = boot hv rg; memory = ws }) .tables) ≡ true
 boot-after-wf f n hv rg ws = wf-complete _ (after-wf f n _ (boot-wf hv rg))
 
--- a call with one frame, from tables that need not be in good order: what is accepted is
+-- a call with one frame, from tables that need not be in good order: what is accepted is so by its own rules, of tables in good order
+pub act-good : (m : Tables) (frame ws : List ℕ) → accepted (act-rules m frame ws) ≡ true →
+    (wf m ≡ true) × (accepted (refusals m (op-of (decode frame))) ≡ true)
+act-good m frame ws t =
+    let z = and-r _ _ (passes 1 (act-rules m frame ws) (rising-act m frame ws) .0 t) in (
+      isnt-false _ (isnt-true _ (and-l _ _ z)),
+      accepted-op m (decode frame) (passes 3 (action-rules m (decode frame)) (rising-action m (decode frame)) .1 (and-r _ _ z)),
+    )
+
+-- and leaves good order behind
 pub act-wf : (m : Tables) (frame ws : List ℕ) → act m frame ws .number ≡ 0 → Wf (act m frame ws .tables)
 unfolding act next
 act-wf m frame ws e =
     let t : accepted (act-rules m frame ws) ≡ true = eq-eqb _ _ e in
-    let z = and-r _ _ (passes 1 (act-rules m frame ws) (rising-act m frame ws) .0 t) in
-    rw t (wf-kept m (op-of (decode frame))
-    (accepted-op m (decode frame) (passes 3 (action-rules m (decode frame)) (rising-action m (decode frame)) .1 (and-r _ _ z)))
-    (wf-sound m (isnt-false _ (isnt-true _ (and-l _ _ z)))))
+    let z = act-good m frame ws t in
+    rw t (wf-kept m (op-of (decode frame)) (z .1) (wf-sound m (z .0)))
 
 -- ── no word of memory reaches a number or a table ──
 pub blind : (f : ℕ → Action) (n : ℕ) (m : Tables) (ws vs : List ℕ) →

@@ -64,7 +64,7 @@ pub rising-act : (m : Tables) (frame ws : List ℕ) → rising 1 (act-rules m fr
 unfolding rising _then_ _and_
 rising-act m frame ws = rising-action m (decode frame)
 
-rising-run : (odd : Bool) (n : ℕ) (s : Machine) (numbers words : List ℕ) → rising 1 (run-rules odd n s numbers words) ≡ true
+pub rising-run : (odd : Bool) (n : ℕ) (s : Machine) (numbers words : List ℕ) → rising 1 (run-rules odd n s numbers words) ≡ true
 unfolding rising _and_
 rising-run odd n s numbers words = refl
 

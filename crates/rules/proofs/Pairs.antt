@@ -22,13 +22,13 @@ unfolding access-span
 no-access = omega arith
 
 module _ (l r p : ℕ) (k : Paired l r p) where
-  made-left : left-in (pair l r p 0) ≡ l
+  pub made-left : left-in (pair l r p 0) ≡ l
   made-left = left-pair l r p 0 (counts-fit .page p (k .page)) no-access (counts-fit .guest l (k .left)) (counts-fit .guest r (k .right))
 
-  made-right : right-in (pair l r p 0) ≡ r
+  pub made-right : right-in (pair l r p 0) ≡ r
   made-right = right-pair l r p 0 (counts-fit .page p (k .page)) no-access (counts-fit .guest l (k .left)) (counts-fit .guest r (k .right))
 
-  made-page : page-in (pair l r p 0) ≡ p
+  pub made-page : page-in (pair l r p 0) ≡ p
   made-page = page-pair l r p 0 (counts-fit .page p (k .page)) no-access
 
   pub pair-wf : {here : List Bool} → (l ≡ r → ⊥) → getD here l false ≡ true → getD here r false ≡ true → PairWf here (pair l r p 0)

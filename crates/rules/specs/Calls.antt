@@ -27,9 +27,8 @@ abbrev pub chosen : ℕ → Arms → Op
 chosen k (otherwise o) = o
 chosen k (n does o ∣ later) = cond (eqb k n) o (chosen k later)
 
-abbrev pub op-of : Action → Op
-op-of a =
-    chosen (a .kind) (
+abbrev pub arms : Action → Arms
+arms a =
     0x01 does Read Cpu (a .guest) (a .second) (a .address) ∣
     0x02 does Write Cpu (a .guest) (a .second) (a .address) (a .word) ∣
     0x03 does HyperCall (a .guest) (a .second) (a .word) ∣
@@ -54,7 +53,10 @@ op-of a =
     0x24 does Fill Iommu (a .guest) (a .second) (a .address) ∣
     0x25 does Drop Iommu (a .guest) (a .second) (a .address) ∣
     -- an unknown kind: refused with 3 before it comes to this
-    otherwise (HyperCall (a .guest) (a .second) (a .word)))
+    otherwise (HyperCall (a .guest) (a .second) (a .word))
+
+abbrev pub op-of : Action → Op
+op-of a = chosen (a .kind) (arms a)
 
 -- ══ one action in front of the tables ══
 -- one list of refusals, then another

@@ -1,0 +1,13 @@
+pub mod Confined
+pub mod Environment
+pub mod Runs
+pub mod Sealed
+pub mod Frames
+pub mod Isolation
+pub mod CallsIsolated
+pub mod OneGuest
+pub mod Examples
+pub mod MarkedProofs
+pub mod NotEmpty
+pub mod Needed
+pub mod Demands
