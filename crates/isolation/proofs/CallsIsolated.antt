@@ -4,11 +4,11 @@
 use mathlib.Core.Path.{_≡_, refl, sym, _∙_, ap, subst}
 use mathlib.Core.Bool.{Bool, true, false, cond}
 use mathlib.Core.List.{List}
-use Prim.Native.Nat.{ℕ, zero, suc, _+_, _/_, _%_, _<_}
+use Prim.Native.Nat.{ℕ, zero, suc, _/_, _%_, _<_}
 use native.Mathlib.Omega.{arith}
 use lib.Dec.{eqb}
-use lib.ListN.{length, getD, set, length-set}
-use borrow.Author.Tests.{eqb-true, eqb-false}
+use lib.ListN.{length, getD, length-set}
+use borrow.Author.Tests.{eqb-false}
 use Rattle.numbers.specs.Sizes.{frame-bytes, memory-words}
 use Rattle.numbers.specs.Tests.{_or_, isnt}
 use Rattle.numbers.specs.Rules.{Rules, least}
@@ -18,7 +18,7 @@ use Rattle.numbers.proofs.Bools.{split, and-l, and-r, isnt-true, isnt-false}
 use Rattle.tables.specs.Wf.{wf}
 use Rattle.tables.specs.declared.state.Tables.{Tables}
 use Rattle.tables.proofs.WfAgrees.{wf-sound}
-use Rattle.rules.specs.Actions.{refusals, accepted, does, Outcome, outcome}
+use Rattle.rules.specs.Actions.{refusals, accepted, does, outcome}
 use Rattle.rules.specs.Calls.{op-of, action-rules, taken, act-rules, act, Machine, after, answer, accepted-of, written, refused, ran, run-rules, listed, frame-at, run, action-at, run-actions}
 use Rattle.rules.proofs.Lowest.{passes, rising-run, refused-changes-nothing}
 use Rattle.rules.proofs.Lists.{accepted-op, act-good}
@@ -26,8 +26,7 @@ use Rattle.actions.specs.Answers as answers
 use Rattle.actions.specs.declared.machine.Out.{Out}
 use Rattle.calls.specs.Lists.{own-rules, ended}
 use Rattle.calls.specs.declared.lists.Ran.{Ran}
-use Rattle.rules.specs.Calls as calls
-use Rattle.isolation.specs.Marks.{Group, marks, still-marked, Matched, Alike, Twins, to-member, Isolated, SameAnswer, SameRan}
+use Rattle.isolation.specs.Marks.{Group, marks, still-marked, Matched, Alike, Twins, Isolated, SameAnswer, SameRan}
 use Rattle.isolation.proofs.Frames.{same-number}
 use Rattle.isolation.proofs.Sealed.{sealed-start}
 use Rattle.isolation.proofs.Isolation.{set-alike, tables-after, words-after, word-after, isolation}

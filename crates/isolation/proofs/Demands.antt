@@ -4,37 +4,30 @@ use mathlib.Core.Bool.{Bool, true, false}
 use mathlib.Core.List.{List}
 use mathlib.Core.Logic.{_⊎_, _↔_, inl, inr, ⊎-elim}
 use mathlib.Core.Option.Option.{some}
-use Prim.Native.Nat.{ℕ, suc, _/_, _%_, _≤_, _<_}
+use Prim.Native.Nat.{ℕ, _≤_, _<_}
 use native.Mathlib.Omega.{arith}
 use lib.Dec.{eqb}
-use lib.ListN.{length, getD, set}
-use borrow.Author.Tests.{eqb-true, eq-eqb, leb-true}
-use Rattle.numbers.specs.Sizes.{units, frame-bytes, memory-words}
-use Rattle.numbers.specs.Tests.{_and_, _or_, isnt}
+use lib.ListN.{length}
+use borrow.Author.Tests.{eqb-true, eq-eqb}
+use Rattle.numbers.specs.Sizes.{frame-bytes, memory-words}
 use Rattle.numbers.specs.Rules.{Rules, least}
 use Rattle.numbers.specs.Rules.Rules.{accept, _⇒_∣_}
-use Rattle.numbers.specs.Addresses.{page-of, offset-of, word-of}
-use Rattle.numbers.specs.Entries.{page-in, readable, writable}
-use Rattle.numbers.specs.Frames.{decode, frame-number}
+use Rattle.numbers.specs.Frames.{decode}
 use Rattle.numbers.specs.declared.frames.Action.{Action}
-use Rattle.tables.specs.Table.{has, live}
-use Rattle.tables.specs.Wants.{W, to-page}
-use Rattle.tables.specs.State.{guest, is-present, holder-of, dma-of}
 use Rattle.tables.specs.Wf.{Wf, wf}
-use Rattle.tables.specs.Views.{MachineState, view}
+use Rattle.tables.specs.Views.{view}
 use Rattle.tables.specs.declared.state.Tables.{Tables}
 use Rattle.tables.specs.declared.state.Side.the-variants.{Cpu, Iommu}
-use Rattle.rules.specs.Actions.{Op, Touch, refusals, accepted, next, does, Outcome, acted}
-use Rattle.rules.specs.Actions.Op.{Read, Write, SharePage}
-use Rattle.rules.specs.Actions.Touch.{Writes, Clears}
-use Rattle.rules.specs.Calls.{op-of, action-rules, taken, act-rules, act, Machine, answer, ran, refused, run-rules, listed, frame-at, run, action-at, run-actions}
+use Rattle.rules.specs.Actions.{Op, refusals, accepted, next, Outcome, acted}
+use Rattle.rules.specs.Actions.Op.{Read, Write}
+use Rattle.rules.specs.Calls.{act, Machine, answer, run-rules, listed, frame-at, run, action-at, run-actions}
 use Rattle.rules.specs.Calls as calls
-use Rattle.rules.specs.Source.{MachineAction, step, asked, besides, effective-entry, read-observation}
+use Rattle.rules.specs.Source.{asked}
 use Rattle.actions.specs.Answers.{after}
 use Rattle.actions.specs.declared.machine.Out.{Out}
 use Rattle.calls.specs.Lists.{ended}
 use Rattle.calls.specs.declared.lists.Ran.{Ran}
-use Rattle.numbers.proofs.Bools.{split, clash, cond-true, and-l, and-r, and-i, or-e, or-il, or-ir, or-no, isnt-no, not-true}
+use Rattle.numbers.proofs.Bools.{clash, cond-true, and-l, and-r, and-i, or-e, or-il, or-ir, or-no, isnt-no}
 use Rattle.numbers.proofs.RulesLaws.{Applies}
 use Rattle.numbers.proofs.RulesLaws.Applies.{here, later}
 use Rattle.tables.proofs.WfAgrees.{wf-sound, wf-complete}
@@ -44,12 +37,11 @@ use Rattle.rules.proofs.WfKept.{wf-kept}
 use Rattle.rules.proofs.SourceSteps.{step-exactly, read-word}
 use Rattle.rules.proofs.Devices.{device-read, device-reads, device-write, device-writes}
 use Rattle.calls.proofs.FrontLaws.{frame-passed, act-on}
-use Rattle.isolation.specs.Marks.{marks, still-marked, Same, Alike, Twins, to-member, SameRan}
 use Rattle.isolation.proofs.Isolation.{isolation}
 use Rattle.isolation.proofs.CallsIsolated.{promised, run-isolated, run-actions-isolated}
-use Rattle.isolation.proofs.OneGuest.{marks-one, still-one, lands, keeps-it}
+use Rattle.isolation.proofs.OneGuest.{two-runs, nothing-learnt, same-lists}
 use Rattle.calls.proofs.Answered.{Answered, method-answered, take-answered, act-answered, list-answered, each-answered}
-use Rattle.isolation.specs.Demands.{applies, Numbered, NumberedList, Demand1, Demand2, doing, Marked, EqualOutside, OtherWord, TwoRuns, AskedBy, NothingLearnt, SameLists, alone, Demand3}
+use Rattle.isolation.specs.Demands.{applies, Numbered, NumberedList, Demand1, Demand2, TwoRuns, NothingLearnt, alone, SameFrame, Demand3}
 
 -- ── demand 1 ──
 -- a number that applies, as the laws of refusals say it
@@ -141,94 +133,30 @@ module _ (m : Tables) (ws : List ℕ) (w : wf m ≡ true) (lw : length ws ≡ me
   }
 
 -- ── demand 3 ──
-module _ (g : ℕ) (s : Machine) (w : wf (s .tables) ≡ true) (f : ℕ → Action) (n : ℕ) where
-  -- marks as the group of one has them
-  marked : (p : ℕ) → still-marked (marks (eqb g) (s .tables)) f s n p ≡ true ↔ Marked g s f n p
-  marked p = (
-    λ e. let k = still-one (marks (eqb g) (s .tables)) f s n p .0 e in let q = marks-one g (s .tables) (wf-sound _ w) p .0 (k .0) in
-        record { held = q .0; unshared = q .1; not-wiped = k .1 },
-    λ k. still-one (marks (eqb g) (s .tables)) f s n p .1 (marks-one g (s .tables) (wf-sound _ w) p .1 (k .held, k .unshared), k .not-wiped),
-  )
-
-  outside : {ws vs : List ℕ} → Alike (still-marked (marks (eqb g) (s .tables)) f s n) ws vs ↔ EqualOutside g s f n ws vs
-  outside = (
-    λ a. record { long = a .long; equal = λ i k. a .equal i (not-true _ (λ t. k (marked _ .0 t))) },
-    λ a. record { long = a .long; equal = λ i k. a .equal i (λ q. clash (marked _ .1 q) k) },
-  )
-
-asked-by : (g : ℕ) (a : Action) → (AskedBy g a → ⊥) → to-member (eqb g) a ≡ false
-unfolding to-member
-asked-by g a k = not-true _ (λ t. k (record {
-  from = leb-true _ _ (and-l _ _ t);
-  upto = leb-true _ _ (and-l _ _ (and-r _ _ t));
-  asker = sym (eqb-true _ _ (and-r _ _ (and-r _ _ t)));
-}))
-
 module _ (g : ℕ) (s t : Machine) where
-  module _ (f h : ℕ → Action) (n : ℕ) (T : TwoRuns g s t f h n) where
-    matched : (i : ℕ) → i < n → Same (eqb g) (still-marked (marks (eqb g) (s .tables)) f s i) (doing s f i) (f i) (h i)
-    matched i l = let k = still-marked (marks (eqb g) (s .tables)) f s i in let x = doing s f i in ⊎-elim
-        (λ e. subst (λ (b : Action). Same (eqb g) k x (f i) b) e Same.same)
-        (λ q. subst (λ (b : Action). Same (eqb g) k x (f i) b) (sym (q .0 .same)) (Same.wrote
-        (⊎-elim (λ e. or-il _ (eq-eqb _ _ e)) (λ e. or-ir _ (eq-eqb _ _ e)) (q .0 .kind))
-        (eq-eqb g _ (sym (q .0 .writer)))
-        (lands k x (λ at y e. marked g s (T .well-formed) f i _ .1 (q .1 at y e)))))
-        (T .actions i l)
+  learnt : (f h : ℕ → Action) (n : ℕ) → TwoRuns g s t f h n → NothingLearnt g s t f h n
+  learnt f h n T = let q = two-runs g s t f h n .1 T in nothing-learnt g s t f h n (q .0) .0 (isolation (eqb g) s t f h n (q .0) (q .1))
 
-    twins : Twins (eqb g) s t f h n
-    unfolding still-marked answer
-    twins = record {
-      tables = T .tables;
-      memory = outside g s (T .well-formed) f 0 .1 (T .memory);
-      actions = λ i l. record {
-        same = matched i l;
-        kept = keeps-it (eqb g) _ _ (op-of (f i)) (λ a b p e k q. T .unshared i l a b p e (eqb-true _ 0 k) (marked g s (T .well-formed) f i p .0 q));
-      };
-    }
-
-    learnt : NothingLearnt g s t f h n
-    learnt = let i = isolation (eqb g) s t f h n (T .well-formed) twins in record {
-      numbers = i .numbers;
-      words = λ j l k. i .words j l (asked-by g (f j) k);
-      tables = i .tables;
-      memory = outside g s (T .well-formed) f n .0 (i .memory);
-    }
-
-  -- what two calls with a list leave
-  lists : (f : ℕ → Action) (x y : calls.Ran) → wf (s .tables) ≡ true → SameRan (eqb g) f s x y → SameLists g s f x y
-  lists f x y w r = record {
-    number = r .number;
-    handled = r .handled;
-    accepted = r .accepted;
-    tables = r .tables;
-    memory = outside g s w f (x .handled) .0 (r .memory);
-    numbers = r .numbers;
-    places = r .places;
-    words = λ i k. r .words i (λ l. asked-by g (f i) (k l));
-  }
-
-  frames : (bytes others : List ℕ) (r q : Out) (vs us : List ℕ) → length bytes ≡ frame-bytes → length others ≡ frame-bytes →
+  frames : (bytes others : List ℕ) {r q : Out} {vs us : List ℕ} → length bytes ≡ frame-bytes → length others ≡ frame-bytes →
       length (s .memory) ≡ memory-words → TwoRuns g s t (alone (decode bytes)) (alone (decode others)) 1 →
       after r vs ≡ act (s .tables) bytes (s .memory) → after q us ≡ act (t .tables) others (t .memory) →
-      (r .number ≡ q .number) × ((AskedBy g (decode bytes) → ⊥) → r .word ≡ q .word) × (r .tables ≡ q .tables)
-      × EqualOutside g s (alone (decode bytes)) 1 vs us
+      SameFrame g s (decode bytes) (after r vs) (after q us)
   unfolding answer calls.after
-  frames bytes others r q vs us l k m T e₁ e₂ =
+  frames bytes others l k m T e₁ e₂ =
       let i = learnt (alone (decode bytes)) (alone (decode others)) 1 T in
-      let p = e₁ ∙ demand-2 (s .tables) (s .memory) (T .well-formed) m .act bytes l in
-      let o = e₂ ∙ demand-2 (t .tables) (t .memory) (rw (← T .tables) (T .well-formed)) (sym (T .memory .long) ∙ m) .act others k in (
-        ap (λ (x : Outcome). x .number) p ∙ i .numbers 0 (omega arith) ∙ sym (ap (λ (x : Outcome). x .number) o),
-        λ a. ap (λ (x : Outcome). x .word) p ∙ i .words 0 (omega arith) a ∙ sym (ap (λ (x : Outcome). x .word) o),
-        ap (λ (x : Outcome). x .tables) p ∙ i .tables ∙ sym (ap (λ (x : Outcome). x .tables) o),
-        promised (EqualOutside g s (alone (decode bytes)) 1) (ap (λ (x : Outcome). x .memory) p) (ap (λ (x : Outcome). x .memory) o) (i .memory),
-      )
+      promised (SameFrame g s (decode bytes))
+      (e₁ ∙ demand-2 (s .tables) (s .memory) (T .well-formed) m .act bytes l)
+      (e₂ ∙ demand-2 (t .tables) (t .memory) (rw (← T .tables) (T .well-formed)) (sym (T .memory .long) ∙ m) .act others k)
+      (record { number = i .numbers 0 (omega arith); word = i .words 0 (omega arith); tables = i .tables; memory = i .memory })
 
   pub demand-3 : Demand3 g s t
   demand-3 = record {
     list = learnt;
-    act = frames;
-    run = λ bytes others numbers words r q vs us ns ks xs ys l T e₁ e₂. lists (frame-at bytes) _ _ (T .well-formed)
-        (run-isolated (eqb g) s t numbers words bytes others l (twins _ _ _ T) e₁ e₂);
-    run-actions = λ actions others numbers words r q vs us ns ks xs ys l T e₁ e₂. lists (action-at actions) _ _ (T .well-formed)
-        (run-actions-isolated (eqb g) s t numbers words actions others l (twins _ _ _ T) e₁ e₂);
+    act = λ bytes others r q vs us. frames bytes others;
+    run = λ bytes others numbers words r q vs us ns ks xs ys l T e₁ e₂.
+        let p = two-runs g s t (frame-at bytes) (frame-at others) _ .1 T in
+        same-lists g s (frame-at bytes) _ _ (p .0) .0 (run-isolated (eqb g) s t numbers words bytes others l (p .1) e₁ e₂);
+    run-actions = λ actions others numbers words r q vs us ns ks xs ys l T e₁ e₂.
+        let p = two-runs g s t (action-at actions) (action-at others) _ .1 T in
+        same-lists g s (action-at actions) _ _ (p .0) .0 (run-actions-isolated (eqb g) s t numbers words actions others l (p .1) e₁ e₂);
   }

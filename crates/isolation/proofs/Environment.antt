@@ -1,7 +1,7 @@
 -- One action of the environment, a guest other than the subject (security.rs §1 and §2). It changes no table, and no word of a page
 -- that is private to the subject, whether the guest acts by itself or by a device. So nobody else reads such a page after it, and the
 -- subject reads there what it read before.
-use mathlib.Core.Path.{_≡_, refl, sym, _∙_, ap, subst}
+use mathlib.Core.Path.{_≡_, refl, sym, _∙_, ap}
 use mathlib.Core.Bool.{true}
 use mathlib.Core.List.{List}
 use mathlib.Core.Option.{Option}

@@ -21,7 +21,7 @@ use Rattle.rules.specs.Actions.Op.{Read, Write, HyperCall, AddVm, RemoveVm, Ass
 use Rattle.rules.specs.Calls.{Arms, chosen, arms, op-of, action-rules}
 use Rattle.rules.specs.Calls.Arms.{otherwise, _does_∣_}
 use Rattle.rules.proofs.Lists.{least-then}
-use Rattle.isolation.specs.Marks.{Group, Marks, writes, with-word, lands-in, Same, to-member}
+use Rattle.isolation.specs.Marks.{Group, Marks, writes, with-word, Same, to-member}
 
 -- ── a write of another word ──
 pub record Writing (a : Action) : Type 0 where

@@ -1,23 +1,19 @@
 -- Demand 3: one action, then a list, for a group of guests. What is equal before an action is equal after it, and so is every answer to
 -- somebody outside.
 use mathlib.Core.Path.{_≡_, refl, sym, _∙_, ap, subst}
-use mathlib.Core.Bool.{Bool, true, false, cond}
+use mathlib.Core.Bool.{true, false}
 use mathlib.Core.List.{List, [], _∷_}
-use mathlib.Core.Logic.{⊎-elim}
-use Prim.Native.Nat.{ℕ, zero, suc, _≤_, _<_}
+use Prim.Native.Nat.{ℕ, zero, suc, _≤_}
 use native.Mathlib.Omega.{arith}
-use lib.Dec.{eqb, leb}
+use lib.Dec.{eqb}
 use lib.ListN.{length, getD, set, length-set}
 use borrow.Author.Tests.{eqb-true, eqb-false}
 use Rattle.numbers.specs.Tests.{_and_, _or_, isnt}
 use Rattle.numbers.specs.Rules.{Rules, least}
-use Rattle.numbers.specs.Addresses.{page-of, offset-of, word-of}
+use Rattle.numbers.specs.Addresses.{page-of}
 use Rattle.numbers.specs.Entries.{page-in}
-use Rattle.numbers.specs.Frames.{kinds, row-of, uses, stray, beyond, frame-rules}
-use Rattle.numbers.specs.Search.{first}
 use Rattle.numbers.specs.declared.frames.Action.{Action}
-use Rattle.numbers.proofs.Bools.{split, clash, and-l, and-r, and-i, or-e, isnt-i, isnt-true, isnt-false, not-true, implies}
-use Rattle.numbers.proofs.RulesLaws.{rising}
+use Rattle.numbers.proofs.Bools.{split, clash, and-i, isnt-i, isnt-false, not-true}
 use Rattle.tables.specs.Table.{live}
 use Rattle.tables.specs.Wants.{W}
 use Rattle.tables.specs.State.{map-of, tlb-of, effective-entry, may-reach}
@@ -25,7 +21,6 @@ use Rattle.tables.specs.Wf.{Wf, wf}
 use Rattle.tables.specs.Views.{view}
 use Rattle.tables.specs.declared.state.Tables.{Tables}
 use Rattle.tables.specs.declared.state.Side.{Side}
-use Rattle.tables.specs.declared.state.Side.the-variants.{Cpu, Iommu}
 use Rattle.tables.proofs.SourceWf.{source-wf}
 use Rattle.tables.proofs.ViewLaws.{Keyed, reach-agrees}
 use Rattle.tables.proofs.WfAgrees.{wf-sound}
@@ -36,8 +31,8 @@ use Rattle.rules.specs.Calls.{op-of, action-rules, Machine, after, answer}
 use Rattle.rules.proofs.Lowest.{Clear, accepted-clear}
 use Rattle.rules.proofs.Words.{length-clear-page, page-cleared, other-page-kept}
 use Rattle.rules.proofs.Accesses.{entries-alike, access-keyed, nothing-is, word-at-page}
-use Rattle.rules.proofs.Lists.{least-then, accepted-op, next-wf, after-wf}
-use Rattle.isolation.specs.Marks.{Group, Marks, marks, zeroes, left-marked, touch-at, still-marked, writes, with-word, lands-in, Same, gives-away, Matched, Alike, Twins, to-member, Isolated}
+use Rattle.rules.proofs.Lists.{accepted-op, after-wf}
+use Rattle.isolation.specs.Marks.{Group, Marks, marks, left-marked, touch-at, still-marked, with-word, lands-in, Same, Matched, Alike, Twins, to-member, Isolated}
 use Rattle.isolation.proofs.Confined.{translation-entitled}
 use Rattle.isolation.proofs.Frames.{writing, same-number, reader, read-by-member}
 use Rattle.isolation.proofs.Sealed.{AllSealed, sealed-start, out-of-reach, sealed-next}

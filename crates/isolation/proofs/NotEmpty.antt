@@ -31,6 +31,8 @@ use Rattle.rules.specs.Calls.{op-of, _then_, action-rules, Machine, after, answ
 use Rattle.rules.proofs.Asking.{frame-of}
 use Rattle.isolation.specs.Marks.{Marks, ours, marks, left-marked, touch-at, still-marked, with-word, Same, gives-away, Alike, Twins}
 use Rattle.isolation.specs.Marks.Same.{same, wrote}
+use Rattle.isolation.specs.Demands.{TwoRuns}
+use Rattle.isolation.proofs.OneGuest.{two-runs}
 use Rattle.isolation.proofs.Examples.{done, two, held, filled}
 
 -- ── the two states ──
@@ -176,6 +178,10 @@ twins = record {
   memory = alike;
   actions = λ i below. record { same = matching i; kept = isnt-true _ (upto-at count keeps (facts .kept) i below) };
 }
+
+-- in 01's words too
+pub runs : TwoRuns 1 (start 7) (start 9) one other count
+runs = two-runs 1 (start 7) (start 9) one other count .0 (facts .well-formed, twins)
 
 pub differ : start 7 ≡ start 9 → ⊥
 differ e =

@@ -18,7 +18,7 @@ use Rattle.numbers.specs.declared.frames.Action.{Action}
 use Rattle.numbers.proofs.Bools.{split, clash, cond-true, cond-false, and-l, and-i, isnt-false, isnt-no, not-true}
 use Rattle.tables.specs.Table.{live, has}
 use Rattle.tables.specs.Wants.{W, shared-by}
-use Rattle.tables.specs.State.{hypervisor, guest, holder-of, boot}
+use Rattle.tables.specs.State.{hypervisor, guest, holder-of}
 use Rattle.tables.specs.Wf.{Wf, wf}
 use Rattle.tables.specs.Views.{MachineState, SourceWf, view}
 use Rattle.tables.specs.declared.state.Tables.{Tables}

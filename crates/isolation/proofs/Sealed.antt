@@ -15,14 +15,14 @@ use Rattle.numbers.specs.Entries.{pair}
 use Rattle.numbers.proofs.Bools.{split, clash, and-l, and-r, and-i, or-l, or-r, or-e, or-il, or-ir, isnt-true, isnt-i, not-true, implies}
 use Rattle.tables.specs.Table.{has, place}
 use Rattle.tables.specs.Wants.{W, to-page, shared-by, shared-with}
-use Rattle.tables.specs.State.{nobody, hypervisor, guest, a-guest, guest-of, in-region, holder-of, dma-of, by-side, held-on, reach, may-reach}
-use Rattle.tables.specs.Wf.{Wf, PageWf}
+use Rattle.tables.specs.State.{nobody, hypervisor, guest, a-guest, guest-of, in-region, holder-of, dma-of, held-on, reach, may-reach}
+use Rattle.tables.specs.Wf.{Wf}
 use Rattle.tables.specs.declared.state.Tables.{Tables}
 use Rattle.tables.specs.declared.state.Side.{Side}
 use Rattle.tables.specs.declared.state.Side.the-variants.{Cpu, Iommu}
-use Rattle.tables.proofs.TableLaws.{each-map, each-place, each-find, none-each, each-none, none-wipe, find-passes}
+use Rattle.tables.proofs.TableLaws.{each-place, each-find, none-each, each-none, none-wipe, find-passes}
 use Rattle.tables.proofs.WantLaws.{zero-free, ends-at-agrees}
-use Rattle.rules.specs.Actions.{Op, Touch, refusals, effect, touch, accepted, next, does, holds, dma-holds}
+use Rattle.rules.specs.Actions.{Op, refusals, effect, touch, accepted, next, does, holds, dma-holds}
 use Rattle.rules.specs.Actions.Op.{Read, Write, HyperCall, AddVm, RemoveVm, AssignPage, ReclaimPage, SharePage, UnsharePage, Map, Unmap, ContextSwitch, Idle, Fill, Drop, IommuAssignPage, IommuReclaimPage}
 use Rattle.rules.specs.Parts.{with-held, with-pairs}
 use Rattle.rules.proofs.Lowest.{Clear, accepted-clear}

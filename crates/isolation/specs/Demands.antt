@@ -6,19 +6,17 @@
 --
 -- The statements use the definitions in specs/ of `numbers`, `tables` and `rules`, and those on this page. They are proved in
 -- proofs/Demands.antt, as `demand-1`, `demand-2` and `demand-3`, by citing what stands elsewhere.
-use mathlib.Core.Path.{_≡_, refl, sym, _∙_, ap, subst}
+use mathlib.Core.Path.{_≡_}
 use mathlib.Core.Bool.{Bool, true, false}
 use mathlib.Core.List.{List}
-use mathlib.Core.Logic.{_⊎_, _↔_, inl, inr, ⊎-elim}
+use mathlib.Core.Logic.{_⊎_, _↔_}
 use mathlib.Core.Option.Option.{some}
-use Prim.Native.Nat.{ℕ, suc, _/_, _%_, _≤_, _<_}
-use native.Mathlib.Omega.{arith}
+use Prim.Native.Nat.{ℕ, _/_, _%_, _≤_, _<_}
 use lib.Dec.{eqb}
 use lib.ListN.{length, getD, set}
-use borrow.Author.Tests.{eqb-true, eq-eqb, leb-true}
 use Rattle.numbers.specs.Sizes.{units, frame-bytes, memory-words}
 use Rattle.numbers.specs.Tests.{_and_, _or_, isnt}
-use Rattle.numbers.specs.Rules.{Rules, least}
+use Rattle.numbers.specs.Rules.{Rules}
 use Rattle.numbers.specs.Rules.Rules.{accept, _⇒_∣_}
 use Rattle.numbers.specs.Addresses.{page-of, offset-of, word-of}
 use Rattle.numbers.specs.Entries.{page-in, readable, writable}
@@ -27,14 +25,14 @@ use Rattle.numbers.specs.declared.frames.Action.{Action}
 use Rattle.tables.specs.Table.{has, live}
 use Rattle.tables.specs.Wants.{W, to-page}
 use Rattle.tables.specs.State.{guest, is-present, holder-of, dma-of}
-use Rattle.tables.specs.Wf.{Wf, wf}
+use Rattle.tables.specs.Wf.{wf}
 use Rattle.tables.specs.Views.{MachineState, view}
 use Rattle.tables.specs.declared.state.Tables.{Tables}
 use Rattle.tables.specs.declared.state.Side.the-variants.{Cpu, Iommu}
-use Rattle.rules.specs.Actions.{Op, Touch, refusals, accepted, next, does, Outcome, acted}
+use Rattle.rules.specs.Actions.{Op, Touch, refusals, does, Outcome, acted}
 use Rattle.rules.specs.Actions.Op.{Read, Write, SharePage}
 use Rattle.rules.specs.Actions.Touch.{Writes, Clears}
-use Rattle.rules.specs.Calls.{op-of, action-rules, taken, act-rules, act, Machine, answer, ran, refused, run-rules, listed, frame-at, run, action-at, run-actions}
+use Rattle.rules.specs.Calls.{op-of, action-rules, taken, act-rules, act, Machine, answer, ran, refused, run-rules, frame-at, run, action-at, run-actions}
 use Rattle.rules.specs.Calls as calls
 use Rattle.rules.specs.Source.{MachineAction, step, asked, besides, effective-entry, read-observation}
 use Rattle.actions.specs.Answers.{after}
@@ -147,7 +145,18 @@ pub record NothingLearnt (g : ℕ) (s t : Machine) (f h : ℕ → Action) (n : �
   pub tables : calls.after f n s .tables ≡ calls.after h n t .tables
   pub memory : EqualOutside g s f n (calls.after f n s .memory) (calls.after h n t .memory)
 
--- the same of what two calls with a list leave
+-- one action, as a list
+abbrev pub alone : Action → ℕ → Action
+alone a i = a
+
+-- the same of what two calls with one frame leave, the first of which says a
+pub record SameFrame (g : ℕ) (s : Machine) (a : Action) (x y : Outcome) : Type 0 where
+  pub number : x .number ≡ y .number
+  pub word : (AskedBy g a → ⊥) → x .word ≡ y .word
+  pub tables : x .tables ≡ y .tables
+  pub memory : EqualOutside g s (alone a) 1 (x .memory) (y .memory)
+
+-- and of what two calls with a list leave
 pub record SameLists (g : ℕ) (s : Machine) (f : ℕ → Action) (x y : calls.Ran) : Type 0 where
   pub number : x .number ≡ y .number
   pub handled : x .handled ≡ y .handled
@@ -158,18 +167,13 @@ pub record SameLists (g : ℕ) (s : Machine) (f : ℕ → Action) (x y : calls.R
   pub places : length (x .words) ≡ length (y .words)
   pub words : (i : ℕ) → (i < x .handled → AskedBy g (f i) → ⊥) → getD (x .words) i 0 ≡ getD (y .words) i 0
 
--- one action, as a list
-abbrev pub alone : Action → ℕ → Action
-alone a i = a
-
 pub record Demand3 (g : ℕ) (s t : Machine) : Type 0 where
   pub list : (f h : ℕ → Action) (n : ℕ) → TwoRuns g s t f h n → NothingLearnt g s t f h n
   -- two calls of `act` with a frame each
   pub act : (bytes others : List ℕ) (r q : Out) (vs us : List ℕ) → length bytes ≡ frame-bytes → length others ≡ frame-bytes →
       length (s .memory) ≡ memory-words → TwoRuns g s t (alone (decode bytes)) (alone (decode others)) 1 →
       after r vs ≡ act (s .tables) bytes (s .memory) → after q us ≡ act (t .tables) others (t .memory) →
-      (r .number ≡ q .number) × ((AskedBy g (decode bytes) → ⊥) → r .word ≡ q .word) × (r .tables ≡ q .tables)
-      × EqualOutside g s (alone (decode bytes)) 1 vs us
+      SameFrame g s (decode bytes) (after r vs) (after q us)
   -- two calls of `run`, and of the run over decoded actions
   pub run : (bytes others numbers words : List ℕ) (r q : Ran) (vs us ns ks xs ys : List ℕ) → length bytes ≡ length others →
       TwoRuns g s t (frame-at bytes) (frame-at others) (length bytes / frame-bytes) →

@@ -1,3 +1,4 @@
 pub mod Demands
 pub mod Marks
 pub mod Security
+pub mod Faults
