@@ -77,7 +77,8 @@ pub record Demand1 : Type 0 where
       NumberedList false (action-at actions) (length actions) s numbers words (ended r vs ns xs)
 
 -- ══ demand 2: accepted exactly when the source's guards hold, with 01's corrections, and then as its clauses say ══
--- of tables in good order and a memory of 1,024 words; `step` has the source's clauses but for `s2.wf()`, `besides` is what 01 asks more
+-- of tables in good order and a memory of 1,024 words; `step` has the source's clauses but for `s2.wf()`, `besides` is what 01 asks more.
+-- Kinds that the source does not have (Idle, Fill and Drop, on either side) are what `refusals` and `effect` say of them, as the equation has it
 pub record Demand2 (m : Tables) (ws : List ℕ) : Type 0 where
   -- an action of the source: the states to which its step may lead are the one where the machine is, if it accepted
   pub exactly : (a : MachineAction) (r : Out) (vs : List ℕ) → after r vs ≡ acted m (asked a) ws → (s : MachineState) →
