@@ -79,11 +79,11 @@ reader G (IommuAssignPage g p) = false
 reader G (IommuReclaimPage g p) = false
 
 -- a word for a member is an answer to a member
-each-arm : (G : Group) (g k : ℕ) → Arms → Bool
-each-arm G g k (otherwise o) = isnt (reader G o)
-each-arm G g k (n does o ∣ later) = (isnt (reader G o) or leb 0x01 n and leb n 0x05 and G g) and each-arm G g k later
+each-arm : (G : Group) (g : ℕ) → Arms → Bool
+each-arm G g (otherwise o) = isnt (reader G o)
+each-arm G g (n does o ∣ later) = (isnt (reader G o) or leb 0x01 n and leb n 0x05 and G g) and each-arm G g later
 
-for-member : (G : Group) (g k : ℕ) (arms : Arms) → each-arm G g k arms ≡ true → reader G (chosen k arms) ≡ true → (leb 0x01 k and leb k 0x05 and G g) ≡ true
+for-member : (G : Group) (g k : ℕ) (arms : Arms) → each-arm G g arms ≡ true → reader G (chosen k arms) ≡ true → (leb 0x01 k and leb k 0x05 and G g) ≡ true
 unfolding each-arm
 for-member G g k (otherwise o) e = λ t. clash t (isnt-true _ e)
 for-member G g k (n does o ∣ later) e = split (eqb k n)

@@ -86,7 +86,7 @@ pub record Demand2 (m : Tables) (ws : List ℕ) : Type 0 where
   -- and a read hands back what the source lets the guest observe
   pub reads : (g u a : ℕ) (r : Out) (vs : List ℕ) → after r vs ≡ acted m (Read Cpu g u a) ws → r .number ≡ 0 →
       read-observation (view m ws) u g a ≡ some (r .word)
-  -- a device: the guest is present, the stream is one, and there is a translation that allows it
+  -- a device: the guest is present, there is such a stream, and a translation that allows the access
   pub dma-reads : (g u a : ℕ) (r : Out) (vs : List ℕ) → after r vs ≡ acted m (Read Iommu g u a) ws → let e = effective-entry Iommu (view m ws) u g (page-of a) in
       ((r .number ≡ 0) ↔ (((is-present m g ≡ true) × (u < units) × (live W e ≡ true)) × (readable e ≡ true)))
       × (r .number ≡ 0 → (r .word ≡ getD ws (word-of (page-in e) (offset-of a)) 0) × (r .tables ≡ m) × (vs ≡ ws))

@@ -1,5 +1,5 @@
--- What the source's security.rs and the end of its state.rs define, over this machine. A state is a `Machine`; `seen` reads the source's
--- state off it. A run is a list of actions of all 23 kinds, refused ones too: `after f k s` is the state that it visits at k.
+-- What the source's security.rs defines, and the private pages of its state.rs, over this machine. A state is a `Machine`;
+-- `seen` reads the source's state off it. A run is a list of actions of all 23 kinds, refused ones too: `after f k s` is the state that it visits at k.
 use Prim.Native.Nat.{ℕ}
 use mathlib.Core.Path.{_≡_}
 use mathlib.Core.Bool.{Bool, true, false}

@@ -1,4 +1,4 @@
--- DMA reads and writes, which the source does not have: accepted exactly where the guest is present, the stream is one, and there is an
+-- DMA reads and writes, which the source does not have: accepted exactly where the guest is present and there is such a stream and an
 -- IOMMU translation that allows the access; and what an accepted one then does, by the address that the source's state translates to.
 use mathlib.Core.Path.{_≡_, refl, sym, _∙_, ap}
 use mathlib.Core.Bool.{true, false}
