@@ -100,26 +100,23 @@ accepted-same f h s t (suc n) e = rw (accepted-same f h s t n (λ i l. e i (omeg
 module _ (G : Group) (s t : Machine) (f h : ℕ → Action) (n : ℕ) (T : Twins G s t f h n) (numbers words : List ℕ) where
   ran-alike : wf (s .tables) ≡ true → SameRan G f s (ran f n s numbers words) (ran h n t numbers words)
   ran-alike w = let i : Isolated G s t f h n = isolation G s t f h n w T in record {
-    number = refl;
-    handled = refl;
-    accepted = accepted-same f h s t n (i .numbers);
-    tables = i .tables;
+    tally = record {
+      number = refl;
+      handled = refl;
+      accepted = accepted-same f h s t n (i .numbers);
+      tables = i .tables;
+      numbers = written-same _ _ n numbers (i .numbers);
+      places = length-written _ n words ∙ sym (length-written _ n words);
+    };
     memory = i .memory;
-    numbers = written-same _ _ n numbers (i .numbers);
-    places = length-written _ n words ∙ sym (length-written _ n words);
     words = λ j out. written-alike _ _ n words j (λ l. i .words j l (out l));
   }
 
   refused-alike : (own : ℕ) → SameRan G f s (refused own s numbers words) (refused own t numbers words)
   unfolding still-marked
   refused-alike own = record {
-    number = refl;
-    handled = refl;
-    accepted = refl;
-    tables = T .tables;
+    tally = record { number = refl; handled = refl; accepted = refl; tables = T .tables; numbers = refl; places = refl };
     memory = T .memory;
-    numbers = refl;
-    places = refl;
     words = λ j out. refl;
   }
 

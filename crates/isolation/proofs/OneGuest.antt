@@ -232,23 +232,13 @@ nothing-learnt g s t f h n w = (
 pub same-lists : (g : ℕ) (s : Machine) (f : ℕ → Action) (x y : Ran) → wf (s .tables) ≡ true → SameRan (eqb g) f s x y ↔ SameLists g s f x y
 same-lists g s f x y w = (
   λ r. record {
-    number = r .number;
-    handled = r .handled;
-    accepted = r .accepted;
-    tables = r .tables;
+    tally = r .tally;
     memory = outside g s w f (x .handled) .0 (r .memory);
-    numbers = r .numbers;
-    places = r .places;
     words = λ i k. r .words i (λ l. asked-one g (f i) .1 (k l));
   },
   λ r. record {
-    number = r .number;
-    handled = r .handled;
-    accepted = r .accepted;
-    tables = r .tables;
+    tally = r .tally;
     memory = outside g s w f (x .handled) .1 (r .memory);
-    numbers = r .numbers;
-    places = r .places;
     words = λ i k. r .words i (λ l. asked-one g (f i) .0 (k l));
   },
 )

@@ -157,15 +157,19 @@ pub record SameFrame (g : ℕ) (s : Machine) (a : Action) (x y : Outcome) : Type
   pub tables : x .tables ≡ y .tables
   pub memory : EqualOutside g s (alone a) 1 (x .memory) (y .memory)
 
--- and of what two calls with a list leave
-pub record SameLists (g : ℕ) (s : Machine) (f : ℕ → Action) (x y : calls.Ran) : Type 0 where
+-- what two calls with a list leave: all that is equal without reserve
+pub record SameTally (x y : calls.Ran) : Type 0 where
   pub number : x .number ≡ y .number
   pub handled : x .handled ≡ y .handled
   pub accepted : x .accepted ≡ y .accepted
   pub tables : x .tables ≡ y .tables
-  pub memory : EqualOutside g s f (x .handled) (x .memory) (y .memory)
   pub numbers : x .numbers ≡ y .numbers
   pub places : length (x .words) ≡ length (y .words)
+
+-- and with the reserve: memory outside marked pages, and the words of all answer places but g's
+pub record SameLists (g : ℕ) (s : Machine) (f : ℕ → Action) (x y : calls.Ran) : Type 0 where
+  pub tally : SameTally x y
+  pub memory : EqualOutside g s f (x .handled) (x .memory) (y .memory)
   pub words : (i : ℕ) → (i < x .handled → AskedBy g (f i) → ⊥) → getD (x .words) i 0 ≡ getD (y .words) i 0
 
 pub record Demand3 (g : ℕ) (s t : Machine) : Type 0 where

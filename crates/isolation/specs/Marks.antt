@@ -18,6 +18,7 @@ use Rattle.tables.specs.declared.state.Tables.{Tables}
 use Rattle.rules.specs.Actions.{Op, Touch, accepted, does, Outcome}
 use Rattle.rules.specs.Actions.Op.{Read, Write, HyperCall, AddVm, RemoveVm, AssignPage, ReclaimPage, SharePage, UnsharePage, Map, Unmap, ContextSwitch, Idle, Fill, Drop, IommuAssignPage, IommuReclaimPage}
 use Rattle.rules.specs.Actions.Touch.{Keeps, Reads, Writes, Clears}
+use Rattle.isolation.specs.Demands.{SameTally}
 use Rattle.rules.specs.Calls.{op-of, action-rules, Machine, after, answer, Ran}
 
 abbrev pub Group : Type 0
@@ -151,12 +152,7 @@ pub record SameAnswer (G : Group) (k : Marks) (t : Touch) (a : Action) (x y : Ou
 
 -- a list f from the state s
 pub record SameRan (G : Group) (f : ℕ → Action) (s : Machine) (x y : Ran) : Type 0 where
-  pub number : x .number ≡ y .number
-  pub handled : x .handled ≡ y .handled
-  pub accepted : x .accepted ≡ y .accepted
-  pub tables : x .tables ≡ y .tables
+  pub tally : SameTally x y
   pub memory : Alike (still-marked (marks G (s .tables)) f s (x .handled)) (x .memory) (y .memory)
-  -- the answer places: all numbers, and all words but those for a member
-  pub numbers : x .numbers ≡ y .numbers
-  pub places : length (x .words) ≡ length (y .words)
+  -- the answer places: all words but those for a member
   pub words : (i : ℕ) → (i < x .handled → to-member G (f i) ≡ false) → getD (x .words) i 0 ≡ getD (y .words) i 0
