@@ -144,7 +144,7 @@ impl Machine {
         }
         let map = parts::map_of(tables, side);
         let mut tlb = parts::tlb_of(tables, side);
-        let entry = search::find(&map, Want::Key(entries::key_of(0, g, v)));
+        let entry = search::find(&map, entries::key_of(0, g, v));
         let key = Want::Key(entries::key_of(u, g, v));
         search::put(&mut tlb, key, entries::at_unit(u, entry));
         let next = parts::with_walk(tables, side, map, tlb);

@@ -23,7 +23,8 @@ use Rattle.rules.specs.Calls as calls
 use Rattle.rules.proofs.Words.{length-touched}
 use Rattle.actions.specs.Answers as answers
 use Rattle.actions.specs.Lent.{lent, Observed, observed, served, guest-op}
-use Rattle.calls.specs.Lists.{Left, left, handled, went, own-rules, planned, zeros, finished, ended}
+use Rattle.actions.specs.Lent.{left as seen-left}
+use Rattle.calls.specs.Lists.{checked, Left, left, handled, went, own-rules, planned, zeros, finished, ended}
 use Rattle.actions.specs.declared.guests.Seen.{Seen}
 use Rattle.actions.specs.declared.machine.Out.{Out}
 use Rattle.calls.specs.declared.lists.Plan.{Plan}
@@ -38,7 +39,7 @@ module _ (m : Tables) (a : Action) (ws : List ℕ) (k : frame-number a ≡ 0 →
   low : frame-number a ≡ 0 → 1 ≤ a .kind
   low z = kind-not-0 a z (k z)
 
-  still-tables : taken m a ws .tables ≡ m
+  pub still-tables : taken m a ws .tables ≡ m
   still-tables = split (eqb (frame-number a) 0)
       (λ t. let z = eqb-true _ _ t in sym (kept (action-rules m a) m (op-of a) (stays m a (low z) (k z))))
       (λ t. sym (ap (λ (o : Outcome). o .tables) (frame-refused m a ws refl (eqb-false _ _ t))))
@@ -53,9 +54,20 @@ module _ (m : Tables) (a : Action) (ws : List ℕ) (k : frame-number a ≡ 0 →
       (λ t. sym (ap observed (frame-refused l a ws refl (eqb-false _ _ t))) ∙ ap observed (frame-refused m a ws refl (eqb-false _ _ t)))
 
   -- what serves it is what the call takes
-  pub taken-as : {n : ℕ} → n ≡ frame-number a → n ≡ 0 → {x : Observed} → x ≡ served m (guest-op a) ws → x ≡ observed (taken m a ws)
+  taken-as : {n : ℕ} → n ≡ frame-number a → n ≡ 0 → {x : Observed} → x ≡ served m (guest-op a) ws → x ≡ observed (taken m a ws)
   unfolding served
   taken-as e z h = let q : frame-number a ≡ 0 = sym e ∙ z in served-as a (low q) (k q) m ws h ∙ ap observed (frame-passed m a ws e z)
+
+-- so is what its check makes of it, on lent parts of the tables
+pub checked-as : (m : Tables) (a : Action) (ws : List ℕ) {n : ℕ} → n ≡ frame-number a → (n ≡ 0 → a .kind ≤ 5) → {x : Observed} →
+    x ≡ checked n (lent (m .present) (m .running) (m .map) (m .tlb) (m .«io_map») (m .«io_tlb»)) a ws → x ≡ observed (taken m a ws)
+unfolding checked
+checked-as m a ws {n} e k {x} h =
+    let l = lent (m .present) (m .running) (m .map) (m .tlb) (m .«io_map») (m .«io_tlb») in
+    let own : frame-number a ≡ 0 → a .kind ≤ 5 = λ z. k (e ∙ z) in
+    split (eqb n 0)
+    (λ t. taken-as l a ws own e (eqb-true _ _ t) (rw t at h) ∙ still-observed m a ws own)
+    (λ t. (rw t at h) ∙ ap observed (frame-refused m a ws e (eqb-false _ _ t)))
 
 module _ (a : Action) (i : ℕ) (m : Tables) (ws numbers words : List ℕ) where
   -- from what a method gives
@@ -66,14 +78,12 @@ module _ (a : Action) (i : ℕ) (m : Tables) (ws numbers words : List ℕ) where
   handled-by e p q = rw (p, q) (ap (λ (o : Outcome). left (o .tables) (o .memory) (set numbers i (o .number)) (set words i (o .word))) e)
 
   -- from what is observed of an action that leaves the tables as they are
-  pub handled-still : (frame-number a ≡ 0 → a .kind ≤ 5) → {s : Seen} {vs numbers′ words′ : List ℕ} →
-      record { number = s .number; word = s .word; memory = vs }
-      ≡ observed (taken (lent (m .present) (m .running) (m .map) (m .tlb) (m .«io_map») (m .«io_tlb»)) a ws) →
+  pub handled-still : (frame-number a ≡ 0 → a .kind ≤ 5) → {s : Seen} {vs numbers′ words′ : List ℕ} → seen-left s vs ≡ observed (taken m a ws) →
       numbers′ ≡ set numbers i (s .number) → words′ ≡ set words i (s .word) →
       left m vs numbers′ words′ ≡ handled a i (left m ws numbers words)
   unfolding handled
   handled-still k {s} {vs} e p q =
-      rw (p, q) (ap (λ (o : Observed). left m (o .memory) (set numbers i (o .number)) (set words i (o .word))) (e ∙ still-observed m a ws k)
+      rw (p, q) (ap (λ (o : Observed). left m (o .memory) (set numbers i (o .number)) (set words i (o .word))) e
       ∙ ap (λ (t : Tables). left t (taken m a ws .memory) (set numbers i (taken m a ws .number)) (set words i (taken m a ws .word))) (sym (still-tables m a ws k)))
 
 -- ── how many are 0 ──

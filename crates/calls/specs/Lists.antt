@@ -13,8 +13,13 @@ use Rattle.tables.specs.Wf.{wf}
 use Rattle.tables.specs.declared.state.Tables.{Tables}
 use Rattle.rules.specs.Calls.{taken}
 use Rattle.rules.specs.Calls as calls
+use Rattle.actions.specs.Lent.{Observed, served, guest-op}
 use Rattle.calls.specs.declared.lists.Plan.{Plan}
 use Rattle.calls.specs.declared.lists.Ran.{Ran}
+
+-- an action that its check refuses with n, or one of kinds 01 to 05 that its check lets pass
+unfoldable pub checked : ℕ → Tables → Action → List ℕ → Observed
+checked n m a ws = cond (eqb n 0) (served m (guest-op a) ws) (record { number = n; word = 0; memory = ws })
 
 -- what stands on the way: the tables, and what is lent
 pub record Left : Type 0 where

@@ -4,10 +4,10 @@ ghost use Prim.Native.Nat.{_*_, _≤_};
 ghost use mathlib.Core.Bool.{cond};
 ghost use lib.ListN.{length, set};
 ghost use Rattle.numbers.specs.Sizes.{frame-bytes};
-ghost use Rattle.numbers.specs.Frames.{frame-number};
-ghost use Rattle.rules.specs.Calls.{frame-at, action-at, taken, run, run-actions};
-ghost use Rattle.actions.specs.Lent.{lent, observed};
-ghost use Rattle.calls.specs.Lists.{left, handled, went, planned, zeros, finished, ended};
+ghost use Rattle.rules.specs.Calls.{frame-at, action-at, run, run-actions};
+ghost use Rattle.actions.specs.Lent.{lent};
+ghost use Rattle.actions.specs.Lent.{left as seen-left};
+ghost use Rattle.calls.specs.Lists.{checked, left, handled, went, planned, zeros, finished, ended};
 use crate::referee::Referee;
 use actions::cells;
 use actions::guests;
@@ -85,8 +85,9 @@ fn finish(p: Plan, tables: Tables, numbers: &[u8]) -> Ran
 }
 
 // ── one action ──
-// An action that leaves the tables as they are: its check refuses it, or it is of kinds 01 to 05. No table is moved for it.
-fn serve<'a>(
+// An action that leaves the tables as they are: its check refuses it, or it is of kinds 01 to 05. No table is moved for it. Callers hand
+// over what the check said, and no other kind.
+pub fn serve<'a>(
     check: u8,
     present: &'a [bool],
     running: &'a [u8],
@@ -97,10 +98,9 @@ fn serve<'a>(
     a: Action,
     mem: &mut [u64],
 ) -> Seen
-    requires { ⌜ (check ≡ frame-number a) × (check ≡ 0 → a .kind ≤ 5) ⌝ }
-    ensures { λ r. ⌜ record { number = r .number; word = r .word; memory = now (mem .exit) } ≡ observed (taken
+    ensures { λ r. ⌜ seen-left r (now (mem .exit)) ≡ checked check
         (lent (now (present .entry)) (now (running .entry)) (now (map .entry)) (now (tlb .entry)) (now («io_map» .entry)) (now («io_tlb» .entry)))
-        a (now (mem .entry))) ⌝ }
+        a (now (mem .entry)) ⌝ }
 {
     if check != 0 {
         return Seen {

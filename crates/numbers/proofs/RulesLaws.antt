@@ -28,7 +28,8 @@ least-applies accept = inl refl
 least-applies (true ⇒ n ∣ rs) = inr here
 least-applies (false ⇒ n ∣ rs) = ⊎-elim (λ e. inl e) (λ a. inr (later a)) (least-applies rs)
 
-above : {k : ℕ} (n : ℕ) (rs : Rules) → rising n rs ≡ true → Applies k rs → n ≤ k
+-- and is no lower than where the numbers start
+pub above : {k : ℕ} (n : ℕ) (rs : Rules) → rising n rs ≡ true → Applies k rs → n ≤ k
 unfolding rising
 above n (bad ⇒ k ∣ rs) r here = leb-true n k (and-l _ _ (and-r _ _ r))
 above n (bad ⇒ k ∣ rs) r (later a) =

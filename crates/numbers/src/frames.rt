@@ -74,21 +74,22 @@ pub fn byte(bytes: &[u8], at: usize) -> u8
 }
 
 // Two bytes, highest first.
-fn two(bytes: &[u8], at: usize) -> u16
-    requires { ⌜ at < 16 ⌝ }
+fn two(bytes: &[u8], at: u16) -> u16
     ensures { λ r. ⌜ r ≡ big 2 (now (bytes .entry)) at ⌝ }
 {
-    (byte(bytes, at) as u16) * 256 + (byte(bytes, at + 1) as u16)
+    let i = at as usize;
+    (byte(bytes, i) as u16) * 256 + (byte(bytes, i + 1) as u16)
 }
 
-// The word at the end of a frame: eight bytes, highest first.
-fn word(bytes: &[u8]) -> u64
-    ensures { λ r. ⌜ r ≡ big 8 (now (bytes .entry)) 8 ⌝ }
+// A word: eight bytes, highest first. A frame has one at its end; the boot line is two.
+pub fn word(bytes: &[u8], at: u8) -> u64
+    ensures { λ r. ⌜ r ≡ big 8 (now (bytes .entry)) at ⌝ }
 {
-    let a = two(bytes, 8) as u64;
-    let b = two(bytes, 10) as u64;
-    let c = two(bytes, 12) as u64;
-    let d = two(bytes, 14) as u64;
+    let i = at as u16;
+    let a = two(bytes, i) as u64;
+    let b = two(bytes, i + 2) as u64;
+    let c = two(bytes, i + 4) as u64;
+    let d = two(bytes, i + 6) as u64;
     ((a * 65536 + b) * 65536 + c) * 65536 + d
 }
 
@@ -141,7 +142,7 @@ impl Action {
         let access = byte(bytes, 3);
         let address = two(bytes, 4);
         let page = two(bytes, 6);
-        let word = word(bytes);
+        let word = word(bytes, 8);
         Action {
             kind,
             guest,

@@ -3,7 +3,7 @@ ghost use mathlib.Core.Path.{_≡_};
 ghost use lib.ListN.{set};
 ghost use Rattle.numbers.specs.Search.{first};
 ghost use Rattle.tables.specs.Table.{hit, find, has, full, no-room, place, seat, put, cleared, wipe};
-ghost use Rattle.tables.specs.Wants.{W, ends-at, joins, meets, invalidated};
+ghost use Rattle.tables.specs.Wants.{W, has-key, ends-at, joins, meets, invalidated};
 use numbers::entries;
 
 // What is looked for.
@@ -94,12 +94,19 @@ pub fn free(rows: &[u32]) -> usize
     }
 }
 
-// The row that is looked for, or 0.
-pub fn find(rows: &[u32], want: Want) -> u32
-    ensures { λ r. ⌜ r ≡ find W (meets want) (now (rows .entry)) ⌝ }
+// The row that has the key, or 0. Every access comes here, so the loop is its own: it tests nothing but the key.
+pub fn find(rows: &[u32], key: u32) -> u32
+    ensures { λ r. ⌜ r ≡ find W (has-key key) (now (rows .entry)) ⌝ }
 {
-    let at = first(rows, want);
-    if at < rows.len() { rows[at] } else { 0 }
+    let mut i: usize = 0;
+    while i < rows.len() {
+        let word = rows[i];
+        if (word != 0) & (key == entries::key_in(word)) {
+            return word;
+        }
+        i += 1;
+    }
+    0
 }
 
 pub fn has(rows: &[u32], want: Want) -> bool

@@ -74,11 +74,11 @@ pub fn guest_of(who: u8) -> usize
 fn effective_entry<'a>(map: &'a [u32], tlb: &'a [u32], unit: u8, guest: u8, gpage: u16) -> u32
     ensures { λ r. ⌜ r ≡ effective-entry (now (map .entry)) (now (tlb .entry)) unit guest gpage ⌝ }
 {
-    let cached = search::find(tlb, Want::Key(entries::key_of(unit, guest, gpage)));
+    let cached = search::find(tlb, entries::key_of(unit, guest, gpage));
     if cached != 0 {
         return cached;
     }
-    search::find(map, Want::Key(entries::key_of(0, guest, gpage)))
+    search::find(map, entries::key_of(0, guest, gpage))
 }
 
 pub fn lookup<'a>(map: &'a [u32], tlb: &'a [u32], unit: u8, guest: u8, gpage: u16) -> Found

@@ -1,6 +1,6 @@
 -- `calls::lists::each_frame` meets its contract.
 use Rattle.calls.specs.Lists.{left, handled, went}
-use Rattle.calls.proofs.ListLaws.{handled-still, still-kind, went-none, went-more, frame-is, lengths}
+use Rattle.calls.proofs.ListLaws.{checked-as, handled-still, still-kind, went-none, went-more, frame-is, lengths}
 use mathlib.Core.Path.{_≡_, _∙_}
 use mathlib.Core.Logic.{⊎-elim}
 use Prim.Native.Nat.{_≤_, _-_}
@@ -25,8 +25,9 @@ turned : (c : tie.Joined1 Inv-loop μ-loop) →
     left (c .if1 .tables) (c .if1 .mem) (c .if1 .numbers) (c .if1 .words)
     ≡ handled (c .before .before .before .decode .result) (l .i) (left (l .tables) (l .mem) (l .numbers) (l .words))
 turned c = ⊎-elim
-    (λ w. rw (w .25, w .26, w .27, w .28) (handled-still _ _ (c .before .before .before .before .before .before .loop .tables) _ _ _
-    (λ z. still-kind _ _ (w .0 .taken) (c .before .before .number .ensures ∙ z)) (w .15 .ensures) (w .20 .ensures .0) (w .20 .ensures .1)))
+    (λ w. let check = c .before .before .number .ensures in let l = c .before .before .before .before .before .before .loop in
+    rw (w .25, w .26, w .27, w .28) (handled-still _ _ (l .tables) _ _ _ (λ z. still-kind _ _ (w .0 .taken) (check ∙ z))
+    (checked-as (l .tables) _ _ check (still-kind _ _ (w .0 .taken)) (w .15 .ensures)) (w .20 .ensures .0) (w .20 .ensures .1)))
     (λ w. rw (w .11, w .12, w .13, w .14) (w .4 .ensures))
     (c .if1 .came)
 
@@ -71,8 +72,7 @@ each-frame-spec =
     part-decode-end
     (λ c κs. search needs)
     (λ c κs. search needs)
-    (λ c κs. let start = c .before .before .before .before .before .before .before .before .before .before .before .before .before .before in
-    (start .before .before .number .ensures, still-kind _ _ (start .if1 .taken)))
+    (λ c κs. search needs)
     (λ c κs. search needs)
     (λ c κs. search needs)
     (λ c. search needs)

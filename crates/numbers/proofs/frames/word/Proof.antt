@@ -1,13 +1,8 @@
 -- `numbers::frames::word` meets its contract.
-use native.Mathlib.Omega.{arith}
+use Rattle.numbers.proofs.FrameLaws.{big-8}
 use borrow.Author.Needs.{needs}
-use Rattle.numbers.specs.Frames.{big}
 use Rattle.numbers.proofs.frames.word.Statement.{statement}
 use Rattle.numbers.proofs.frames.word.Tie as tie
-
-returns : tie.Need-returns
-unfolding big
-returns c = omega arith
 
 pub word-spec : {M : Type 1} → statement M
 word-spec =
@@ -15,10 +10,13 @@ word-spec =
     (tie.spec
     (λ c κs. search needs)
     (λ c. search needs)
-    (λ c κs. search needs)
     (λ c. search needs)
     (λ c κs. search needs)
     (λ c. search needs)
+    (λ c. search needs)
+    (λ c κs. search needs)
+    (λ c. search needs)
+    (λ c. search needs)
     (λ c κs. search needs)
     (λ c. search needs)
     (λ c. search needs)
@@ -27,4 +25,4 @@ word-spec =
     (λ c. search needs)
     (λ c. search needs)
     (λ c. search needs)
-    returns)
+    (λ c. big-8 _ _ (c .before .before .before .two .ensures) (c .before .before .two2 .ensures) (c .before .two3 .ensures) (c .two4 .ensures)))

@@ -1,0 +1,13 @@
+-- `lines::replay::Replay::end` meets its contract.
+use borrow.Author.Needs.{needs}
+use Rattle.lines.proofs.replay.Replay.end.Statement.{statement}
+use Rattle.lines.proofs.replay.Replay.end.Tie as tie
+
+pub end-spec : {M : Type 1} → statement M
+end-spec =
+    tie.close
+    (tie.spec
+    (λ c κs. search needs)
+    (λ c. search needs)
+    (λ c. search needs)
+    (λ c. c .before .before .before .before .go .ensures))

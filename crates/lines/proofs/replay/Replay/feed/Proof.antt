@@ -1,0 +1,13 @@
+-- `lines::replay::Replay::feed` meets its contract.
+use borrow.Author.Needs.{needs}
+use Rattle.lines.proofs.replay.Replay.feed.Statement.{statement}
+use Rattle.lines.proofs.replay.Replay.feed.Tie as tie
+
+pub feed-spec : {M : Type 1} → statement M
+feed-spec =
+    tie.close
+    (tie.spec
+    (λ c κs. search needs)
+    (λ c. search needs)
+    (λ c. search needs)
+    (λ c. c .before .before .before .before .go .ensures))

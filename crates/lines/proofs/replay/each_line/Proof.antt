@@ -1,0 +1,114 @@
+-- `lines::replay::each_line` meets its contract.
+use mathlib.Core.Path.{_≡_, refl}
+use mathlib.Core.List.{_++_}
+use mathlib.Core.Logic.{⊎-elim}
+use Prim.Native.Nat.{_+_, _-_}
+use lib.ListN.{length, take, drop}
+use Rattle.lines.specs.Log.{answer-bytes}
+use Rattle.lines.specs.Pieces.{held}
+use Rattle.lines.specs.Walks.{way, stepped}
+use Rattle.lines.proofs.Along.{step-moved, step-lent, Along, Found, found-line, along-start, along-line, within, rest-added}
+use borrow.Author.Needs.{needs}
+use Rattle.lines.proofs.replay.each_line.Statement.{statement}
+use Rattle.lines.proofs.replay.each_line.Tie as tie
+
+abbrev Inv-loop : tie.InvT-loop
+Inv-loop bytes mem₀ out₀ line₀ booted₀ tables₀ written₀ at₀ mem out line booted tables written at =
+    Along bytes line₀ (way booted₀ tables₀ mem₀ out₀ written₀) line at (way booted tables mem out written)
+
+abbrev μ-loop : tie.MeasureT-loop
+μ-loop bytes mem₀ out₀ line₀ booted₀ tables₀ written₀ at₀ mem out line booted tables written at = length bytes - at
+
+-- a line that ends inside the piece
+found : (c : tie.Else1 Inv-loop μ-loop) →
+    let l = c .before .before .before .loop in
+    let t = c .before .before .before .before .before .before .before .before .before .args in
+    Found (t .bytes .now) (t .from .line) (way (t .from .booted) (t .from .tables) (t .mem .now) (t .out .now) 0)
+    (l .line) (l .at) (way (l .booted) (l .tables) (l .mem) (l .out) (l .written)) (c .before .line-end .result)
+found c = found-line _ _ _ _ _ _ (c .before .before .before .loop .inv) (c .before .line-end .ensures) (c .if1 .left)
+
+-- it is served from lent parts (15: `serve`, 19: `put`) or with the tables moved (2: `turn`, 6: `put`); the places after these say what
+-- stands where the two ways meet
+one-line : (c : tie.Joined2 Inv-loop μ-loop) →
+    let f = c .before .before .before .before .before .before .before .before .before in
+    let l = f .before .before .before .loop in
+    let t = f .before .before .before .before .before .before .before .before .before .args in
+    way (c .if2 .booted) (c .if2 .tables) (c .if2 .mem) (c .if2 .out) (l .written + answer-bytes)
+    ≡ stepped (held (l .line) ++ take (f .before .line-end .result - l .at) (drop (l .at) (t .bytes .now)))
+    (way (l .booted) (l .tables) (l .mem) (l .out) (l .written))
+one-line c =
+    let l = c .before .before .before .before .before .before .before .before .before .before .before .before .loop in
+    let h = c .before .before .before .before .before .before .before .hear-with .ensures in
+    let a = c .before .before .before .decode .ensures in
+    let n = c .before .before .number .ensures in
+    ⊎-elim
+    (λ w. rw (w .22, w .23, w .24, w .25) (step-lent _ _ (l .tables) _ _ _ h a n (w .0 .taken) (w .15 .ensures) (w .19 .ensures)))
+    (λ w. rw (w .10, w .11, w .12, w .13) (step-moved _ _ _ _ _ _ h (w .2 .ensures) (w .6 .ensures)))
+    (c .if2 .came)
+
+put-requires : tie.Need-put-requires Inv-loop μ-loop
+put-requires c κs =
+    let serve = c .before .before .before in
+    let d = serve .before .before .before .before .before .before .before .before .before .before .before .before .before .before in
+    found (d .before .before .before .before .before .before .before .before .before .before) .room
+
+put-requires-2 : tie.Need-put-requires-2 Inv-loop μ-loop
+put-requires-2 c κs =
+    let turn = c .before .before .before in
+    found (turn .before .before .before .before .before .before .before .before .before .before .before) .room
+
+add-written : tie.Need-add-written Inv-loop μ-loop
+unfolding answer-bytes
+add-written c =
+    let f = c .before .before .before .before .before .before .before .before .before .before in
+    found f .written-fits (f .before .before .before .before .before .before .before .before .before .good .1 .1 .1 .0 .0)
+
+add-at : tie.Need-add-at Inv-loop μ-loop
+add-at c =
+    let f = c .before .before .before .before .before .before .before .before .before .before in
+    found f .end-fits (search needs)
+
+loop-again : tie.Need-loop-again Inv-loop μ-loop
+unfolding answer-bytes
+loop-again c =
+    let f = c .before .before .before .before .before .before .before .before .before .before in
+    found f .more (c .empty .ensures) (one-line (c .before))
+
+returns-2 : tie.Need-returns-2 Inv-loop μ-loop
+returns-2 c =
+    let end = c .before .before .before in
+    rest-added _ _ _ _ _ _ (end .before .before .loop .inv) (end .line-end .ensures) (c .before .before .if1 .taken) (c .add .ensures)
+
+pub each-line-spec : {M : Type 1} → statement M
+each-line-spec =
+    tie.close
+    (tie.spec
+    Inv-loop
+    μ-loop
+    (λ c. along-start _ _ _ refl (c .before .before .before .before .before .pre .0) (c .before .before .before .before .before .pre .1))
+    (λ c κs. search needs)
+    (λ c. search needs)
+    (λ c. search needs)
+    (λ c. search (needs, within _ _ _ _ _ _ (c .before .before .before .loop .inv) (c .before .line-end .ensures)))
+    (λ c κs. search needs)
+    (λ c. search needs)
+    (λ c. search needs)
+    (λ c. search needs)
+    (λ c κs. search needs)
+    (λ c κs. search needs)
+    (λ c κs. search needs)
+    (λ c κs. search needs)
+    put-requires
+    (λ c κs. search needs)
+    put-requires-2
+    (λ c κs. search needs)
+    add-written
+    add-at
+    (λ c. found (c .before .before .before .before .before .before .before .before .before .before) .onward)
+    loop-again
+    (λ c. c .before .loop .inv .memory-long)
+    (λ c. c .before .loop .inv .out-long)
+    (λ c. along-line _ _ _ _ _ _ (c .before .loop .inv) (c .loop-test .left))
+    (λ c. c .before .before .before .before .before .loop .inv .memory-long)
+    (λ c. c .before .before .before .before .before .loop .inv .out-long)
+    returns-2)

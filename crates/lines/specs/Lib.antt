@@ -1,0 +1,4 @@
+pub mod Text
+pub mod Log
+pub mod Pieces
+pub mod Walks

@@ -1,0 +1,261 @@
+// A log, a piece at a time: each line gets its answer line.
+ghost use mathlib.Core.Path.{_≡_};
+ghost use mathlib.Core.Bool.{true, false};
+ghost use mathlib.Core.List.{[]};
+ghost use Prim.Native.Nat.{_+_, _*_, _≤_};
+ghost use lib.Dec.{eqb};
+ghost use lib.ListN.{length};
+ghost use Rattle.numbers.specs.Rules.{least};
+ghost use Rattle.numbers.specs.Tests.{isnt};
+ghost use Rattle.tables.specs.State.{empty};
+ghost use Rattle.lines.specs.Text.{cut};
+ghost use Rattle.lines.specs.Log.{answer-bytes};
+ghost use Rattle.lines.specs.Pieces.{kept, held, lines-in, piece-rules, piece, log-of, reached};
+ghost use Rattle.lines.specs.Walks.{answered, feeds, way, turned, gone, closed};
+use crate::answers;
+use crate::line::Line;
+use crate::text;
+use crate::text::Heard;
+use actions::guests::Seen;
+use calls::lists;
+use calls::referee::Referee;
+use numbers::frames;
+use numbers::frames::Action;
+use tables::state::Tables;
+
+// Where a log stands between two pieces: the line that is not finished, whether the boot line has come, the tables.
+pub struct Replay {
+    pub line: Line,
+    pub booted: bool,
+    pub tables: Tables,
+}
+
+// What a piece comes to: its number, how many bytes of answers were written, where the log then stands.
+pub struct Fed {
+    pub number: u8,
+    pub written: usize,
+    pub replay: Replay,
+}
+
+// What a line gets, and what it leaves.
+struct Answer {
+    number: u8,
+    word: u64,
+    booted: bool,
+    tables: Tables,
+}
+
+// ── one line ──
+fn turn(booted: bool, tables: Tables, heard: Heard, mem: &mut [u64]) -> Answer
+    ensures { λ r. ⌜ turned r (now (mem .exit)) ≡ answered heard (record { booted = booted; tables = tables; memory = now (mem .entry) }) ⌝ }
+{
+    if !heard.good {
+        return Answer {
+            number: 3,
+            word: 0,
+            booted,
+            tables,
+        };
+    }
+    if !booted {
+        let hypervisor = frames::word(&heard.bytes, 0);
+        let region = frames::word(&heard.bytes, 8);
+        let tables = Tables::boot(hypervisor, region);
+        return Answer {
+            number: 0,
+            word: 0,
+            booted: true,
+            tables,
+        };
+    }
+    let referee = Referee { tables };
+    let out = referee.take(Action::decode(&heard.bytes), mem);
+    let tables = out.tables;
+    Answer {
+        number: out.number,
+        word: out.word,
+        booted,
+        tables,
+    }
+}
+
+// ── many lines ──
+// The lines that a piece ends; the bytes after the last feed are kept. Only a line that may change the tables has them moved.
+fn each_line(from: Replay, bytes: &[u8], mem: &mut [u64], out: &mut [u8]) -> Fed
+    requires { ⌜ from .line ≡ kept (held (from .line)) ⌝ }
+    requires { ⌜ feeds (now bytes) * answer-bytes ≤ length (now out) ⌝ }
+    ensures { λ r. ⌜ reached r (now (mem .exit)) (now (out .exit))
+        ≡ gone (held (from .line)) (now (bytes .entry)) (way (from .booted) (from .tables) (now (mem .entry)) (now (out .entry)) 0) ⌝ }
+{
+    let mut line = from.line;
+    let mut booted = from.booted;
+    let mut tables = from.tables;
+    let mut written: usize = 0;
+    let mut at: usize = 0;
+    while at < bytes.len() {
+        let end = text::line_end(bytes, at);
+        if bytes.len() <= end {
+            line = line.add(&bytes[at..end]);
+            break;
+        }
+        let heard = line.hear_with(&bytes[at..end]);
+        let a = Action::decode(&heard.bytes);
+        let check = a.number();
+        if booted & ((check != 0) | (a.kind <= 5)) {
+            let seen = lists::serve(
+                check,
+                &tables.present,
+                &tables.running,
+                &tables.map,
+                &tables.tlb,
+                &tables.io_map,
+                &tables.io_tlb,
+                a,
+                mem,
+            );
+            answers::put(out, written, seen.number, seen.word);
+        } else {
+            let t = turn(booted, tables, heard, mem);
+            answers::put(out, written, t.number, t.word);
+            booted = t.booted;
+            tables = t.tables;
+        }
+        line = Line::empty();
+        written += answers::BYTES;
+        at = end + 1;
+    }
+    let replay = Replay {
+        line,
+        booted,
+        tables,
+    };
+    Fed {
+        number: 0,
+        written,
+        replay,
+    }
+}
+
+// The end of the log: a line that is not finished is a line.
+fn close(fed: Fed, mem: &mut [u64], out: &mut [u8]) -> Fed
+    requires { ⌜ ((fed .replay .line .count ≡ 0 → ⊥) → fed .written + answer-bytes ≤ length (now out)) ⌝ }
+    ensures { λ r. ⌜ reached r (now (mem .exit)) (now (out .exit)) ≡ closed (reached fed (now (mem .entry)) (now (out .entry))) ⌝ }
+{
+    let from = fed.replay;
+    let last = from.line;
+    let written = fed.written;
+    let line = Line::empty();
+    if last.count == 0 {
+        let booted = from.booted;
+        let tables = from.tables;
+        let replay = Replay {
+            line,
+            booted,
+            tables,
+        };
+        return Fed {
+            number: 0,
+            written,
+            replay,
+        };
+    }
+    let t = turn(from.booted, from.tables, last.hear(), mem);
+    answers::put(out, written, t.number, t.word);
+    let booted = t.booted;
+    let tables = t.tables;
+    let replay = Replay {
+        line,
+        booted,
+        tables,
+    };
+    Fed {
+        number: 0,
+        written: written + answers::BYTES,
+        replay,
+    }
+}
+
+// ── before ──
+// The piece does not end with a feed; or it is empty, and bytes came before it.
+fn is_open(line: Line, bytes: &[u8]) -> bool
+    ensures { λ r. ⌜ r ≡ isnt (eqb (length (cut (held line) (now (bytes .entry)) .rest)) 0) ⌝ }
+{
+    let n = bytes.len();
+    if n == 0 {
+        return line.count != 0;
+    }
+    bytes[n - 1] != text::FEED
+}
+
+// 1 for lengths, 2 for tables that are not well formed. A line left open counts where the log ends.
+fn own_number(from: Replay, last: bool, bytes: &[u8], memory: usize, room: usize) -> u8
+    ensures { λ r. ⌜ r ≡ least (piece-rules (length (lines-in last (cut (held (from .line)) (now (bytes .entry))))) (from .tables) memory room) ⌝ }
+{
+    let ended = text::feeds(bytes);
+    let more = last & is_open(from.line, bytes);
+    let lines = room / answers::BYTES;
+    if (memory != Referee::WORDS) | ((lines < ended) | (more & (lines <= ended))) {
+        return 1;
+    }
+    let tables = from.tables;
+    if !tables.wf() {
+        return 2;
+    }
+    0
+}
+
+impl Replay {
+    // Before the first byte of a log.
+    pub fn start() -> Replay
+        ensures { λ r. ⌜ r ≡ record { line = kept []; booted = false; tables = empty } ⌝ }
+    {
+        Replay {
+            line: Line::empty(),
+            booted: false,
+            tables: Tables::empty(),
+        }
+    }
+
+    fn go(self, last: bool, bytes: &[u8], mem: &mut [u64], out: &mut [u8]) -> Fed
+        ensures { λ r. ⌜ reached r (now (mem .exit)) (now (out .exit))
+            ≡ piece last (self .line) (log-of self (now (mem .entry))) (now (bytes .entry)) (now (out .entry)) ⌝ }
+    {
+        let number = own_number(self, last, bytes, mem.len(), out.len());
+        if number != 0 {
+            return Fed {
+                number,
+                written: 0,
+                replay: self,
+            };
+        }
+        let line = self.line.tidy();
+        let booted = self.booted;
+        let tables = self.tables;
+        let from = Replay {
+            line,
+            booted,
+            tables,
+        };
+        let fed = each_line(from, bytes, mem, out);
+        if last {
+            return close(fed, mem, out);
+        }
+        fed
+    }
+
+    // A piece of a log, of any length.
+    pub fn feed(mut self, bytes: &[u8], mem: &mut [u64], out: &mut [u8]) -> Fed
+        ensures { λ r. ⌜ reached r (now (mem .exit)) (now (out .exit))
+            ≡ piece false (self .line) (log-of self (now (mem .entry))) (now (bytes .entry)) (now (out .entry)) ⌝ }
+    {
+        self.go(false, bytes, mem, out)
+    }
+
+    // The last piece, or the whole log: a last line may lack its feed.
+    pub fn end(mut self, bytes: &[u8], mem: &mut [u64], out: &mut [u8]) -> Fed
+        ensures { λ r. ⌜ reached r (now (mem .exit)) (now (out .exit))
+            ≡ piece true (self .line) (log-of self (now (mem .entry))) (now (bytes .entry)) (now (out .entry)) ⌝ }
+    {
+        self.go(true, bytes, mem, out)
+    }
+}

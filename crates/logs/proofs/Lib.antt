@@ -1,0 +1,4 @@
+pub mod Replays
+pub mod Lists
+pub mod Isolated
+pub mod Example
