@@ -26,11 +26,12 @@ use Rattle.calls.specs.Lists.{checked}
 use Rattle.calls.proofs.ListLaws.{still-tables, checked-as, still-kind}
 use Rattle.lines.specs.Text.{well-shaped, bytes-of, feed, Cut, cut, unended}
 use Rattle.lines.specs.Log.{Log, Turn, turn, spelt, answer-line, answer-bytes}
-use Rattle.lines.specs.Pieces.{kept, held, Passed}
+use Rattle.lines.specs.Pieces.{kept, held, Passed, reached}
 use Rattle.lines.specs.Walks.{heard, answered, added, feeds, Way, way, way-of, turned, stepped, walked, held-by, gone, closed}
 use Rattle.lines.specs.declared.text.Heard.{Heard}
 use Rattle.lines.specs.declared.line.Line.{Line}
 use Rattle.lines.specs.declared.replay.Answer.{Answer}
+use Rattle.lines.specs.declared.replay.Fed.{Fed}
 use Rattle.lines.proofs.TextLaws.{ahead}
 use Rattle.lines.proofs.Cuts.{cut-line, cut-rest, feeds-line}
 use Rattle.lines.proofs.LineLaws.{held-nothing, added-kept, turn-heard, turn-action}
@@ -81,6 +82,12 @@ module _ (l : List ℕ) (booted : Bool) (m : Tables) (ws out : List ℕ) (writte
       ∙ ap (λ (b : Bool). on b (o .tables) (observed o)) b
       ∙ ap (λ (x : Action). let y = taken m x ws in on true (y .tables) (observed y)) (d ∙ ap (λ (x : Heard). decode (x .bytes)) q)
       ∙ sym (ap (led out written) (turn-action log l b)))
+
+-- ── an accepted piece ──
+pub reached-as : {r : Fed} {written : ℕ} {line : Line} {booted : Bool} {m : Tables} {ws out : List ℕ} {p : Passed} →
+    r ≡ record { number = 0; written = written; replay = record { line = line; booted = booted; tables = m } } →
+    record { number = 0; written = written; line = line; log = record { booted = booted; tables = m; memory = ws }; out = out } ≡ p → reached r ws out ≡ p
+reached-as {ws} {out} e k = ap (λ (r : Fed). reached r ws out) e ∙ k
 
 -- ── many lines ──
 -- the first of them, and then the others

@@ -57,10 +57,6 @@ ended-feeds h (x ∷ l) = split (eqb x feed)
     (λ e. rw e (let i = ended-feeds (h ++ x ∷ []) l in omega arith))
 
 -- ── what is left after the last line feed ──
-pub rest-empty : (h : List ℕ) → cut h [] .rest ≡ h
-unfolding cut
-rest-empty h = refl
-
 grown : (h : List ℕ) (x : ℕ) → length (h ++ x ∷ []) ≡ 0 → ⊥
 grown h x e = let q = length-append h (x ∷ []) in omega arith
 

@@ -7,7 +7,7 @@ use native.Mathlib.Nat.{zero-min, suc-min-suc}
 use native.Mathlib.Numerals.{add-one}
 use native.Mathlib.Omega.{arith}
 use lib.Dec.{leb, ltb}
-use lib.ListN.{length, take, set, replicate, length-append, length-take, length-set}
+use lib.ListN.{length, take, set, length-append, length-take, length-set}
 use lib.Seq.{take-nil, take-all, take-take, take-append-le, take-suc-set, append-snoc}
 use borrow.Author.Tests.{ltb-true, ltb-false, leb-true, leb-false, le-ltb, ne-eqb}
 use Rattle.numbers.specs.Sizes.{frame-bytes}
@@ -30,11 +30,6 @@ unfolding padded
 padded-length zero l = refl
 padded-length (suc n) [] = ap suc (padded-length n [])
 padded-length (suc n) (b ∷ l) = ap suc (padded-length n l)
-
-padded-none : (n : ℕ) → padded n [] ≡ replicate n 0
-unfolding padded
-padded-none zero = refl
-padded-none (suc n) = ap (λ (r : List ℕ). 0 ∷ r) (padded-none n)
 
 padded-take : (n : ℕ) (l : List ℕ) → padded n (take n l) ≡ padded n l
 unfolding padded
@@ -69,10 +64,6 @@ kept-held l = rw held-kept (kept-take l)
 
 pub held-nothing : held (kept []) ≡ []
 held-nothing = held-kept [] ∙ take-nil most
-
-pub kept-empty : kept [] ≡ record { count = 0; text = replicate most 0 }
-unfolding kept
-kept-empty = rw (zero-min, padded-none most)
 
 -- what is no longer in the first bytes changes nothing
 kept-alike : (l k : List ℕ) → take most l ≡ take most k → kept l ≡ kept k

@@ -79,6 +79,22 @@ fn turn(booted: bool, tables: Tables, heard: Heard, mem: &mut [u64]) -> Answer
     }
 }
 
+// What an accepted piece comes to.
+fn accepted(written: usize, line: Line, booted: bool, tables: Tables) -> Fed
+    ensures { λ r. ⌜ r ≡ record { number = 0; written = written; replay = record { line = line; booted = booted; tables = tables } } ⌝ }
+{
+    let replay = Replay {
+        line,
+        booted,
+        tables,
+    };
+    Fed {
+        number: 0,
+        written,
+        replay,
+    }
+}
+
 // ── many lines ──
 // The lines that a piece ends; the bytes after the last feed are kept. Only a line that may change the tables has them moved.
 fn each_line(from: Replay, bytes: &[u8], mem: &mut [u64], out: &mut [u8]) -> Fed
@@ -124,16 +140,7 @@ fn each_line(from: Replay, bytes: &[u8], mem: &mut [u64], out: &mut [u8]) -> Fed
         written += answers::BYTES;
         at = end + 1;
     }
-    let replay = Replay {
-        line,
-        booted,
-        tables,
-    };
-    Fed {
-        number: 0,
-        written,
-        replay,
-    }
+    accepted(written, line, booted, tables)
 }
 
 // The end of the log: a line that is not finished is a line.
@@ -143,36 +150,15 @@ fn close(fed: Fed, mem: &mut [u64], out: &mut [u8]) -> Fed
 {
     let from = fed.replay;
     let last = from.line;
-    let written = fed.written;
+    let booted = from.booted;
+    let tables = from.tables;
     let line = Line::empty();
     if last.count == 0 {
-        let booted = from.booted;
-        let tables = from.tables;
-        let replay = Replay {
-            line,
-            booted,
-            tables,
-        };
-        return Fed {
-            number: 0,
-            written,
-            replay,
-        };
+        return accepted(fed.written, line, booted, tables);
     }
-    let t = turn(from.booted, from.tables, last.hear(), mem);
-    answers::put(out, written, t.number, t.word);
-    let booted = t.booted;
-    let tables = t.tables;
-    let replay = Replay {
-        line,
-        booted,
-        tables,
-    };
-    Fed {
-        number: 0,
-        written: written + answers::BYTES,
-        replay,
-    }
+    let t = turn(booted, tables, last.hear(), mem);
+    answers::put(out, fed.written, t.number, t.word);
+    accepted(fed.written + answers::BYTES, line, t.booted, t.tables)
 }
 
 // ── before ──

@@ -7,7 +7,7 @@ use lib.ListN.{length, take, drop}
 use Rattle.lines.specs.Log.{answer-bytes}
 use Rattle.lines.specs.Pieces.{held}
 use Rattle.lines.specs.Walks.{way, stepped}
-use Rattle.lines.proofs.Along.{step-moved, step-lent, Along, Found, found-line, along-start, along-line, within, rest-added}
+use Rattle.lines.proofs.Along.{step-moved, step-lent, Along, Found, found-line, along-start, along-line, within, rest-added, reached-as}
 use borrow.Author.Needs.{needs}
 use Rattle.lines.proofs.replay.each_line.Statement.{statement}
 use Rattle.lines.proofs.replay.each_line.Tie as tie
@@ -74,10 +74,14 @@ loop-again c =
     let f = c .before .before .before .before .before .before .before .before .before .before in
     found f .more (c .empty .ensures) (one-line (c .before))
 
-returns-2 : tie.Need-returns-2 Inv-loop μ-loop
-returns-2 c =
-    let end = c .before .before .before in
-    rest-added _ _ _ _ _ _ (end .before .before .loop .inv) (end .line-end .ensures) (c .before .before .if1 .taken) (c .add .ensures)
+-- the loop ends after the last feed, or at bytes that are kept (1: `line_end`, 4: `add`)
+returns : tie.Need-returns Inv-loop μ-loop
+returns c =
+    let q = c .before .before .loop .inv in
+    reached-as (c .accepted .ensures) (⊎-elim
+    (λ w. rw (w .1) (along-line _ _ _ _ _ _ q (w .0 .left)))
+    (λ w. rw (w .5) (rest-added _ _ _ _ _ _ q (w .1 .ensures) (w .2 .taken) (w .4 .ensures)))
+    (c .before .loop-test .came))
 
 pub each-line-spec : {M : Type 1} → statement M
 each-line-spec =
@@ -106,9 +110,7 @@ each-line-spec =
     add-at
     (λ c. found (c .before .before .before .before .before .before .before .before .before .before) .onward)
     loop-again
-    (λ c. c .before .loop .inv .memory-long)
-    (λ c. c .before .loop .inv .out-long)
-    (λ c. along-line _ _ _ _ _ _ (c .before .loop .inv) (c .loop-test .left))
-    (λ c. c .before .before .before .before .before .loop .inv .memory-long)
-    (λ c. c .before .before .before .before .before .loop .inv .out-long)
-    returns-2)
+    (λ c κs. search needs)
+    (λ c. c .before .before .loop .inv .memory-long)
+    (λ c. c .before .before .loop .inv .out-long)
+    returns)
