@@ -16,7 +16,6 @@ use crate::answers;
 use crate::line::Line;
 use crate::text;
 use crate::text::Heard;
-use actions::guests::Seen;
 use calls::lists;
 use calls::referee::Referee;
 use numbers::frames;

@@ -57,6 +57,11 @@ fn turn(
     let fed = answer(log, &bytes[..n], mem, out);
     let written = fed.written;
     let log = fed.replay;
+    // not of a log from its start, with this much room: `never-refused` in crate `logs`
+    if fed.number != 0 {
+        say(b"replay: a piece of the log was refused\n");
+        return Left { more: false, log };
+    }
     let sent = io::write_all(to, &out[..written]);
     if !sent {
         say(b"replay: the answers could not be written\n");
