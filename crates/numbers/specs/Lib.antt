@@ -4,4 +4,5 @@ pub mod Rules
 pub mod Search
 pub mod Addresses
 pub mod Entries
+pub mod Answers
 pub mod Frames

@@ -2,71 +2,71 @@
 ghost use mathlib.Core.Path.{_≡_};
 ghost use Rattle.numbers.specs.Entries.{key-of, entry, at-unit, access-in, page-in, key-in, gpage-in, guest-in, unit-in, tag-in, pair, right-in, left-in, pair-tag-in, readable, writable};
 
-// How many values each field has room for, from the lowest field up.
-const ACCESSES: u32 = 4;
+// Spans: how many values each field has room for, from the lowest field up. How many there are is `Action`'s to say.
+const ACCESS_SPAN: u32 = 4;
 
-const PAGES: u32 = 1024;
+const PAGE_SPAN: u32 = 1024;
 
-const GPAGES: u32 = 256;
+const GPAGE_SPAN: u32 = 256;
 
-const GUESTS: u32 = 8;
+const GUEST_SPAN: u32 = 8;
 
-const UNITS: u32 = 4;
+const UNIT_SPAN: u32 = 4;
 
 // What stands above page and access in an entry: unit (0 in a map), guest and guest page, and a 1 on top that says live.
 pub fn key_of(unit: u8, guest: u8, gpage: u16) -> u32
     ensures { λ r. ⌜ r ≡ key-of unit guest gpage ⌝ }
 {
-    (gpage as u32) + GPAGES * ((guest as u32) + GUESTS * ((unit as u32) + UNITS))
+    (gpage as u32) + GPAGE_SPAN * ((guest as u32) + GUEST_SPAN * ((unit as u32) + UNIT_SPAN))
 }
 
 pub fn entry(unit: u8, guest: u8, gpage: u16, page: u16, access: u8) -> u32
     ensures { λ r. ⌜ r ≡ entry unit guest gpage page access ⌝ }
 {
-    (access as u32) + ACCESSES * ((page as u32) + PAGES * key_of(unit, guest, gpage))
+    (access as u32) + ACCESS_SPAN * ((page as u32) + PAGE_SPAN * key_of(unit, guest, gpage))
 }
 
 pub fn access_in(word: u32) -> u8
     ensures { λ r. ⌜ r ≡ access-in word ⌝ }
 {
-    (word % ACCESSES) as u8
+    (word % ACCESS_SPAN) as u8
 }
 
 pub fn page_in(word: u32) -> u16
     ensures { λ r. ⌜ r ≡ page-in word ⌝ }
 {
-    (word / ACCESSES % PAGES) as u16
+    (word / ACCESS_SPAN % PAGE_SPAN) as u16
 }
 
 pub fn key_in(word: u32) -> u32
     ensures { λ r. ⌜ r ≡ key-in word ⌝ }
 {
-    word / ACCESSES / PAGES
+    word / ACCESS_SPAN / PAGE_SPAN
 }
 
 pub fn gpage_in(word: u32) -> u16
     ensures { λ r. ⌜ r ≡ gpage-in word ⌝ }
 {
-    (key_in(word) % GPAGES) as u16
+    (key_in(word) % GPAGE_SPAN) as u16
 }
 
 pub fn guest_in(word: u32) -> u8
     ensures { λ r. ⌜ r ≡ guest-in word ⌝ }
 {
-    (key_in(word) / GPAGES % GUESTS) as u8
+    (key_in(word) / GPAGE_SPAN % GUEST_SPAN) as u8
 }
 
 pub fn unit_in(word: u32) -> u8
     ensures { λ r. ⌜ r ≡ unit-in word ⌝ }
 {
-    (key_in(word) / GPAGES / GUESTS % UNITS) as u8
+    (key_in(word) / GPAGE_SPAN / GUEST_SPAN % UNIT_SPAN) as u8
 }
 
 // What stands above the unit: a 1 in a proper entry.
 pub fn tag_in(word: u32) -> u32
     ensures { λ r. ⌜ r ≡ tag-in word ⌝ }
 {
-    key_in(word) / GPAGES / GUESTS / UNITS
+    key_in(word) / GPAGE_SPAN / GUEST_SPAN / UNIT_SPAN
 }
 
 // The same entry at another unit.
@@ -99,24 +99,26 @@ pub fn pair(left: u8, right: u8, page: u16, access: u8) -> u32
     ensures { λ r. ⌜ r ≡ pair left right page access ⌝ }
 {
     (access as u32)
-        + ACCESSES * ((page as u32) + PAGES * ((right as u32) + GUESTS * ((left as u32) + GUESTS)))
+        + ACCESS_SPAN
+            * ((page as u32)
+                + PAGE_SPAN * ((right as u32) + GUEST_SPAN * ((left as u32) + GUEST_SPAN)))
 }
 
 pub fn right_in(word: u32) -> u8
     ensures { λ r. ⌜ r ≡ right-in word ⌝ }
 {
-    (key_in(word) % GUESTS) as u8
+    (key_in(word) % GUEST_SPAN) as u8
 }
 
 pub fn left_in(word: u32) -> u8
     ensures { λ r. ⌜ r ≡ left-in word ⌝ }
 {
-    (key_in(word) / GUESTS % GUESTS) as u8
+    (key_in(word) / GUEST_SPAN % GUEST_SPAN) as u8
 }
 
 // What stands above the left guest: a 1 in a proper pair.
 pub fn pair_tag_in(word: u32) -> u32
     ensures { λ r. ⌜ r ≡ pair-tag-in word ⌝ }
 {
-    key_in(word) / GUESTS / GUESTS
+    key_in(word) / GUEST_SPAN / GUEST_SPAN
 }
