@@ -8,6 +8,7 @@ use lib.ListN.{length}
 use borrow.Author.Tests.{ne-eqb}
 use Rattle.numbers.specs.Sizes.{frame-bytes, memory-words}
 use Rattle.numbers.specs.Tests.{_and_, _or_, isnt}
+use Rattle.numbers.specs.Answers.{wordless}
 use Rattle.numbers.specs.Rules.{Rules, least}
 use Rattle.numbers.specs.Frames.{decode, frame-rules, frame-number}
 use Rattle.numbers.specs.declared.frames.Action.{Action}
@@ -18,16 +19,16 @@ use Rattle.tables.specs.declared.state.Tables.{Tables}
 use Rattle.rules.specs.Actions.{Op, refusals, next, does, outcome, acted}
 use Rattle.rules.specs.Calls.{op-of, action-rules, taken, act-rules, act}
 use Rattle.rules.proofs.Lists.{least-then}
-use Rattle.actions.proofs.Answers.{refused-by}
+use Rattle.access.proofs.Answers.{refused-by}
 
 -- only the number of the refusals decides
-same-number : (rules later : Rules) (m : Tables) (o : Op) (ws : List ℕ) → least rules ≡ least later → outcome rules m o ws ≡ outcome later m o ws
+pub same-number : (rules later : Rules) (m : Tables) (o : Op) (ws : List ℕ) → least rules ≡ least later → outcome rules m o ws ≡ outcome later m o ws
 unfolding next does
 same-number rules later m o ws e = rw e
 
 -- ── a frame's: 3 and 4 ──
 module _ (m : Tables) (a : Action) (ws : List ℕ) {n : ℕ} (e : n ≡ frame-number a) where
-  pub frame-refused : (n ≡ 0 → ⊥) → record { number = n; word = 0; tables = m; memory = ws } ≡ taken m a ws
+  pub frame-refused : (n ≡ 0 → ⊥) → record { seen = wordless n; tables = m; memory = ws } ≡ taken m a ws
   unfolding frame-number rising _and_
   frame-refused h =
       refused-by (action-rules m a) m (op-of a) ws (sym (least-then 2 (frame-rules a) (refusals m (op-of a)) refl ∙ rw (← e, ne-eqb n 0 h))) h
@@ -40,12 +41,12 @@ module _ (m : Tables) (a : Action) (ws : List ℕ) {n : ℕ} (e : n ≡ frame-nu
 -- ── a call's: 1 and 2 ──
 module _ (m : Tables) (frame ws : List ℕ) where
   pub act-1 : (isnt (eqb (length frame) frame-bytes) or isnt (eqb (length ws) memory-words)) ≡ true →
-      record { number = 1; word = 0; tables = m; memory = ws } ≡ act m frame ws
+      record { seen = wordless 1; tables = m; memory = ws } ≡ act m frame ws
   unfolding act least next does
   act-1 e = rw e
 
   module _ (e : (isnt (eqb (length frame) frame-bytes) or isnt (eqb (length ws) memory-words)) ≡ false) where
-    pub act-2 : wf m ≡ false → record { number = 2; word = 0; tables = m; memory = ws } ≡ act m frame ws
+    pub act-2 : wf m ≡ false → record { seen = wordless 2; tables = m; memory = ws } ≡ act m frame ws
     unfolding act least next does
     act-2 h = rw (e, isnt-i h)
 

@@ -1,3 +1,2 @@
-// Calls: one frame in front of the tables, a list of frames, a list of decoded actions.
-pub mod lists;
+// Calls: a decoded action, and one frame in front of the tables.
 pub mod referee;

@@ -22,10 +22,10 @@ use Rattle.rules.specs.Actions.{refusals, accepted, does, outcome}
 use Rattle.rules.specs.Calls.{op-of, action-rules, taken, act-rules, act, Machine, after, answer, accepted-of, written, refused, ran, run-rules, listed, frame-at, run, action-at, run-actions}
 use Rattle.rules.proofs.Lowest.{passes, rising-run, refused-changes-nothing}
 use Rattle.rules.proofs.Lists.{accepted-op, act-good}
-use Rattle.actions.specs.Answers as answers
-use Rattle.actions.specs.declared.machine.Out.{Out}
-use Rattle.calls.specs.Lists.{own-rules, ended}
-use Rattle.calls.specs.declared.lists.Ran.{Ran}
+use Rattle.edits.specs.Edits as answers
+use Rattle.edits.specs.declared.out.Out.{Out}
+use Rattle.lists.specs.Lists.{own-rules, ended}
+use Rattle.lists.specs.declared.Ran.{Ran}
 use Rattle.isolation.specs.Marks.{Group, marks, still-marked, Matched, Alike, Twins, Isolated, SameAnswer, SameRan}
 use Rattle.isolation.proofs.Frames.{same-number}
 use Rattle.isolation.proofs.Sealed.{sealed-start}
@@ -92,7 +92,7 @@ written-alike x y (suc n) places i e = set-alike (written x n places) (written y
     (λ q. subst (λ (j : ℕ). x j ≡ y j) q (e (omega arith)))
     (written-alike x y n places i (λ l. e (omega arith)))
 
-accepted-same : (f h : ℕ → Action) (s t : Machine) (n : ℕ) → ((i : ℕ) → i < n → answer f s i .number ≡ answer h t i .number) → accepted-of f s n ≡ accepted-of h t n
+accepted-same : (f h : ℕ → Action) (s t : Machine) (n : ℕ) → ((i : ℕ) → i < n → answer f s i .seen .number ≡ answer h t i .seen .number) → accepted-of f s n ≡ accepted-of h t n
 unfolding accepted-of
 accepted-same f h s t zero e = refl
 accepted-same f h s t (suc n) e = rw (accepted-same f h s t n (λ i l. e i (omega arith)), e n (omega arith))

@@ -23,10 +23,10 @@ use Rattle.rules.specs.Actions.Op.{Read, Write}
 use Rattle.rules.specs.Calls.{act, Machine, answer, run-rules, listed, frame-at, run, action-at, run-actions}
 use Rattle.rules.specs.Calls as calls
 use Rattle.rules.specs.Source.{asked}
-use Rattle.actions.specs.Answers.{after}
-use Rattle.actions.specs.declared.machine.Out.{Out}
-use Rattle.calls.specs.Lists.{ended}
-use Rattle.calls.specs.declared.lists.Ran.{Ran}
+use Rattle.edits.specs.Edits.{after}
+use Rattle.edits.specs.declared.out.Out.{Out}
+use Rattle.lists.specs.Lists.{ended}
+use Rattle.lists.specs.declared.Ran.{Ran}
 use Rattle.numbers.proofs.Bools.{clash, cond-true, and-l, and-r, and-i, or-e, or-il, or-ir, or-no, isnt-no}
 use Rattle.numbers.proofs.RulesLaws.{Applies}
 use Rattle.numbers.proofs.RulesLaws.Applies.{here, later}
@@ -40,7 +40,7 @@ use Rattle.calls.proofs.FrontLaws.{frame-passed, act-on}
 use Rattle.isolation.proofs.Isolation.{isolation}
 use Rattle.isolation.proofs.CallsIsolated.{promised, run-isolated, run-actions-isolated}
 use Rattle.isolation.proofs.OneGuest.{two-runs, nothing-learnt, same-lists}
-use Rattle.calls.proofs.Answered.{Answered, method-answered, take-answered, act-answered, list-answered, each-answered}
+use Rattle.lists.proofs.Answered.{Answered, method-answered, take-answered, act-answered, list-answered, each-answered}
 use Rattle.isolation.specs.Demands.{applies, Numbered, NumberedList, Demand1, Demand2, TwoRuns, NothingLearnt, alone, SameFrame, Demand3}
 
 -- ── demand 1 ──
@@ -98,8 +98,8 @@ module _ (m : Tables) (ws : List ℕ) (w : wf m ≡ true) (lw : length ws ≡ me
   h = wf-sound m w
 
   -- the answer of a method, by what `acted` has
-  accepts : (o : Op) (r : Out) (vs : List ℕ) → after r vs ≡ acted m o ws → (r .number ≡ 0) ↔ (accepted (refusals m o) ≡ true)
-  accepts o r vs e = let n : r .number ≡ least (refusals m o) = ap (λ (x : Outcome). x .number) e in
+  accepts : (o : Op) (r : Out) (vs : List ℕ) → after r vs ≡ acted m o ws → (r .seen .number ≡ 0) ↔ (accepted (refusals m o) ≡ true)
+  accepts o r vs e = let n : r .seen .number ≡ least (refusals m o) = ap (λ (x : Outcome). x .seen .number) e in
       (λ z. eq-eqb _ 0 (sym n ∙ z), λ t. n ∙ eqb-true _ 0 t)
 
   there : (o : Op) (r : Out) (vs : List ℕ) → after r vs ≡ acted m o ws → view (acted m o ws .tables) (acted m o ws .memory) ≡ view (r .tables) vs
@@ -110,8 +110,8 @@ module _ (m : Tables) (ws : List ℕ) (w : wf m ≡ true) (lw : length ws ≡ me
   ordered o = by-cond (λ (t : Tables). wf t ≡ true) (accepted (refusals m o)) _ _ (λ e. wf-complete _ (wf-kept m o e h)) (λ e. w)
 
   -- what is left, from what a rule says is left
-  left-is : {r : Out} {vs : List ℕ} {x y : Outcome} → after r vs ≡ x → x ≡ y → (r .word ≡ y .word) × (r .tables ≡ y .tables) × (vs ≡ y .memory)
-  left-is e q = (ap (λ (z : Outcome). z .word) (e ∙ q), ap (λ (z : Outcome). z .tables) (e ∙ q), ap (λ (z : Outcome). z .memory) (e ∙ q))
+  left-is : {r : Out} {vs : List ℕ} {x y : Outcome} → after r vs ≡ x → x ≡ y → (r .seen .word ≡ y .seen .word) × (r .tables ≡ y .tables) × (vs ≡ y .memory)
+  left-is e q = (ap (λ (z : Outcome). z .seen .word) (e ∙ q), ap (λ (z : Outcome). z .tables) (e ∙ q), ap (λ (z : Outcome). z .memory) (e ∙ q))
 
   pub demand-2 : Demand2 m ws
   demand-2 = record {
@@ -120,7 +120,7 @@ module _ (m : Tables) (ws : List ℕ) (w : wf m ≡ true) (lw : length ws ≡ me
           λ p. let q = k .0 p in (n .1 (q .0), q .1 ∙ there (asked a) r vs e),
           λ p. k .1 (n .0 (p .0), p .1 ∙ sym (there (asked a) r vs e)),
         );
-    reads = λ g u a r vs e z. read-word h ws lw g u a (accepts (Read Cpu g u a) r vs e .0 z) ∙ ap (λ (x : Outcome). some (x .word)) (sym e);
+    reads = λ g u a r vs e z. read-word h ws lw g u a (accepts (Read Cpu g u a) r vs e .0 z) ∙ ap (λ (x : Outcome). some (x .seen .word)) (sym e);
     dma-reads = λ g u a r vs e.
         let k = device-read h ws lw g u a in let n = accepts (Read Iommu g u a) r vs e in
         ((λ z. k .0 (n .0 z), λ q. n .1 (k .1 q)), λ z. left-is e (device-reads h ws lw g u a (n .0 z)));

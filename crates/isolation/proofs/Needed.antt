@@ -33,10 +33,10 @@ use Rattle.isolation.proofs.Examples.{all-true, equal, done, two, held,
 
 -- ══ what a run tells: a run is given by the secret ══
 numbers : List Outcome → List ℕ
-numbers rs = map (λ (r : Outcome). r .number) rs
+numbers rs = map (λ (r : Outcome). r .seen .number) rs
 
 words : List Outcome → List ℕ
-words rs = map (λ (r : Outcome). r .word) rs
+words rs = map (λ (r : Outcome). r .seen .word) rs
 
 last : ℕ → List ℕ → ℕ
 last w [] = w
@@ -116,8 +116,8 @@ equal-tables =
 -- only a write has another word. In a frame that has no use for one, a word is refused
 equal-actions : List Bool
 equal-actions =
-    eqb (taken two (frame-of (ContextSwitch 1 0)) (filled 0) .number) 0
-    ∷ eqb (taken two (with-word 9 (frame-of (ContextSwitch 1 0))) (filled 0) .number) 3
+    eqb (taken two (frame-of (ContextSwitch 1 0)) (filled 0) .seen .number) 0
+    ∷ eqb (taken two (with-word 9 (frame-of (ContextSwitch 1 0))) (filled 0) .seen .number) 3
     ∷ []
 
 -- ══ rules without which marked words are read ══

@@ -99,10 +99,10 @@ keeps i =
 
 -- the answers of a run, the numbers and the words
 pub numbers : (ℕ → Action) → Machine → List ℕ
-numbers f s = tabulate count (λ i. answer f s i .number)
+numbers f s = tabulate count (λ i. answer f s i .seen .number)
 
 pub words : (ℕ → Action) → Machine → List ℕ
-words f s = tabulate count (λ i. answer f s i .word)
+words f s = tabulate count (λ i. answer f s i .seen .word)
 
 pub record Facts : Type 0 where
   -- the hypotheses of demand 3

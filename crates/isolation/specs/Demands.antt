@@ -35,10 +35,10 @@ use Rattle.rules.specs.Actions.Touch.{Writes, Clears}
 use Rattle.rules.specs.Calls.{op-of, action-rules, taken, act-rules, act, Machine, answer, ran, refused, run-rules, frame-at, run, action-at, run-actions}
 use Rattle.rules.specs.Calls as calls
 use Rattle.rules.specs.Source.{MachineAction, step, asked, besides, effective-entry, read-observation}
-use Rattle.actions.specs.Answers.{after}
-use Rattle.actions.specs.declared.machine.Out.{Out}
-use Rattle.calls.specs.Lists.{ended}
-use Rattle.calls.specs.declared.lists.Ran.{Ran}
+use Rattle.edits.specs.Edits.{after}
+use Rattle.edits.specs.declared.out.Out.{Out}
+use Rattle.lists.specs.Lists.{ended}
+use Rattle.lists.specs.declared.Ran.{Ran}
 
 -- ══ demand 1: a numbered answer to everything ══
 -- a refusal with this number has a condition that holds
@@ -48,10 +48,10 @@ applies n (bad ⇒ k ∣ rules) = bad and eqb k n or applies n rules
 
 -- the answer is 0 to 15; a number that is given applies, and none that applies is lower; a refusal hands back 0 and changes nothing
 pub record Numbered (rules : Rules) (m : Tables) (ws : List ℕ) (r : Out) (vs : List ℕ) : Type 0 where
-  pub number : r .number ≤ 15
-  pub given : (r .number ≡ 0) ⊎ (applies (r .number) rules ≡ true)
-  pub lowest : (n : ℕ) → applies n rules ≡ true → (0 < r .number) × (r .number ≤ n)
-  pub refusal : (r .number ≡ 0 → ⊥) → (r .word ≡ 0) × (r .tables ≡ m) × (vs ≡ ws)
+  pub number : r .seen .number ≤ 15
+  pub given : (r .seen .number ≡ 0) ⊎ (applies (r .seen .number) rules ≡ true)
+  pub lowest : (n : ℕ) → applies n rules ≡ true → (0 < r .seen .number) × (r .seen .number ≤ n)
+  pub refusal : (r .seen .number ≡ 0 → ⊥) → (r .seen .word ≡ 0) × (r .tables ≡ m) × (vs ≡ ws)
 
 -- a list's own number is 0, 1 or 2, by the same rule. Refused whole, it has handled nothing and leaves all as it was. Else it goes through
 -- all its n actions, each of which is answered in the state that the ones before it left
@@ -63,7 +63,7 @@ pub record NumberedList (odd : Bool) (f : ℕ → Action) (n : ℕ) (s : Machine
   pub goes-through : x .number ≡ 0 → x ≡ ran f n s numbers words
   pub each : (i : ℕ) → let m = calls.after f i s .tables in let ws = calls.after f i s .memory in
       Numbered (action-rules m (f i)) m ws
-      (record { number = answer f s i .number; word = answer f s i .word; tables = answer f s i .tables }) (answer f s i .memory)
+      (record { seen = answer f s i .seen; tables = answer f s i .tables }) (answer f s i .memory)
 
 pub record Demand1 : Type 0 where
   -- each of the 23 methods, any tables
@@ -82,17 +82,17 @@ pub record Demand1 : Type 0 where
 pub record Demand2 (m : Tables) (ws : List ℕ) : Type 0 where
   -- an action of the source: the states to which its step may lead are the one where the machine is, if it accepted
   pub exactly : (a : MachineAction) (r : Out) (vs : List ℕ) → after r vs ≡ acted m (asked a) ws → (s : MachineState) →
-      (step (view m ws) s a × besides m a) ↔ ((r .number ≡ 0) × (s ≡ view (r .tables) vs))
+      (step (view m ws) s a × besides m a) ↔ ((r .seen .number ≡ 0) × (s ≡ view (r .tables) vs))
   -- and a read hands back what the source lets the guest observe
-  pub reads : (g u a : ℕ) (r : Out) (vs : List ℕ) → after r vs ≡ acted m (Read Cpu g u a) ws → r .number ≡ 0 →
-      read-observation (view m ws) u g a ≡ some (r .word)
+  pub reads : (g u a : ℕ) (r : Out) (vs : List ℕ) → after r vs ≡ acted m (Read Cpu g u a) ws → r .seen .number ≡ 0 →
+      read-observation (view m ws) u g a ≡ some (r .seen .word)
   -- a device: the guest is present, there is such a stream, and a translation that allows the access
   pub dma-reads : (g u a : ℕ) (r : Out) (vs : List ℕ) → after r vs ≡ acted m (Read Iommu g u a) ws → let e = effective-entry Iommu (view m ws) u g (page-of a) in
-      ((r .number ≡ 0) ↔ (((is-present m g ≡ true) × (u < units) × (live W e ≡ true)) × (readable e ≡ true)))
-      × (r .number ≡ 0 → (r .word ≡ getD ws (word-of (page-in e) (offset-of a)) 0) × (r .tables ≡ m) × (vs ≡ ws))
+      ((r .seen .number ≡ 0) ↔ (((is-present m g ≡ true) × (u < units) × (live W e ≡ true)) × (readable e ≡ true)))
+      × (r .seen .number ≡ 0 → (r .seen .word ≡ getD ws (word-of (page-in e) (offset-of a)) 0) × (r .tables ≡ m) × (vs ≡ ws))
   pub dma-writes : (g u a w : ℕ) (r : Out) (vs : List ℕ) → after r vs ≡ acted m (Write Iommu g u a w) ws → let e = effective-entry Iommu (view m ws) u g (page-of a) in
-      ((r .number ≡ 0) ↔ (((is-present m g ≡ true) × (u < units) × (live W e ≡ true)) × (writable e ≡ true)))
-      × (r .number ≡ 0 → (r .word ≡ 0) × (r .tables ≡ m) × (vs ≡ set ws (word-of (page-in e) (offset-of a)) w))
+      ((r .seen .number ≡ 0) ↔ (((is-present m g ≡ true) × (u < units) × (live W e ≡ true)) × (writable e ≡ true)))
+      × (r .seen .number ≡ 0 → (r .seen .word ≡ 0) × (r .tables ≡ m) × (vs ≡ set ws (word-of (page-in e) (offset-of a)) w))
   -- good order of what is left follows, whatever the action
   pub order : (o : Op) (r : Out) (vs : List ℕ) → after r vs ≡ acted m o ws → wf (r .tables) ≡ true
   -- a decoded action whose frame check passes is the action that its kind names, and one frame is the action that it decodes to. (A list
@@ -130,7 +130,7 @@ pub record TwoRuns (g : ℕ) (s t : Machine) (f h : ℕ → Action) (n : ℕ) : 
   -- the same actions, save for a word that g or its device writes into a page still marked, or would have written were it not refused
   pub actions : (i : ℕ) → i < n → (f i ≡ h i) ⊎ (OtherWord g (f i) (h i) × ((at w : ℕ) → doing s f i ≡ Writes at w → Marked g s f i (page-of at)))
   -- no share of a marked page is accepted
-  pub unshared : (i : ℕ) → i < n → (l r p : ℕ) → op-of (f i) ≡ SharePage l r p → answer f s i .number ≡ 0 → Marked g s f i p → ⊥
+  pub unshared : (i : ℕ) → i < n → (l r p : ℕ) → op-of (f i) ≡ SharePage l r p → answer f s i .seen .number ≡ 0 → Marked g s f i p → ⊥
 
 -- the action is asked by g or a stream in its name: kinds 01 to 05
 pub record AskedBy (g : ℕ) (a : Action) : Type 0 where
@@ -141,8 +141,8 @@ pub record AskedBy (g : ℕ) (a : Action) : Type 0 where
 -- every answer to the hypervisor, to other guests and to their devices is equal, and so are the end states outside marked pages; the
 -- numbers of g's own answers are equal too
 pub record NothingLearnt (g : ℕ) (s t : Machine) (f h : ℕ → Action) (n : ℕ) : Type 0 where
-  pub numbers : (i : ℕ) → i < n → answer f s i .number ≡ answer h t i .number
-  pub words : (i : ℕ) → i < n → (AskedBy g (f i) → ⊥) → answer f s i .word ≡ answer h t i .word
+  pub numbers : (i : ℕ) → i < n → answer f s i .seen .number ≡ answer h t i .seen .number
+  pub words : (i : ℕ) → i < n → (AskedBy g (f i) → ⊥) → answer f s i .seen .word ≡ answer h t i .seen .word
   pub tables : calls.after f n s .tables ≡ calls.after h n t .tables
   pub memory : EqualOutside g s f n (calls.after f n s .memory) (calls.after h n t .memory)
 
@@ -152,8 +152,8 @@ alone a i = a
 
 -- the same of what two calls with one frame leave, the first of which says a
 pub record SameFrame (g : ℕ) (s : Machine) (a : Action) (x y : Outcome) : Type 0 where
-  pub number : x .number ≡ y .number
-  pub word : (AskedBy g a → ⊥) → x .word ≡ y .word
+  pub number : x .seen .number ≡ y .seen .number
+  pub word : (AskedBy g a → ⊥) → x .seen .word ≡ y .seen .word
   pub tables : x .tables ≡ y .tables
   pub memory : EqualOutside g s (alone a) 1 (x .memory) (y .memory)
 

@@ -77,13 +77,13 @@ result s (right o) = acted (s .tables) o (s .memory)
 result s (unasked n o) = outcome (without n (refusals (s .tables) o)) (s .tables) o (s .memory)
 result s (unwiped o) =
     let r = acted (s .tables) o (s .memory) in
-    record { number = r .number; word = r .word; tables = r .tables; memory = s .memory }
+    record { seen = r .seen; tables = r .tables; memory = s .memory }
 result s (undropped g v) =
     let m = s .tables in
     let r = acted m (Unmap Cpu g v) (s .memory) in
     -- the key of the entry on CPU 0
     let half = with-walk Cpu m (r .tables .map) (wipe W (has-key (key-of 0 g v)) (m .tlb)) in
-    record { number = r .number; word = r .word; tables = cond (eqb (r .number) 0) half m; memory = r .memory }
+    record { seen = r .seen; tables = cond (eqb (r .seen .number) 0) half m; memory = r .memory }
 
 -- the machine after some steps, and what each of them gets
 abbrev pub left-by : Outcome → Machine

@@ -136,17 +136,17 @@ to-member G a = leb 0x01 (a .kind) and leb (a .kind) 0x05 and G (a .guest)
 
 pub record Isolated (G : Group) (s t : Machine) (f h : ℕ → Action) (n : ℕ) : Type 0 where
   -- the numbers, a member's too
-  pub numbers : (i : ℕ) → i < n → answer f s i .number ≡ answer h t i .number
+  pub numbers : (i : ℕ) → i < n → answer f s i .seen .number ≡ answer h t i .seen .number
   -- the words, but for those that a member or its device gets
-  pub words : (i : ℕ) → i < n → to-member G (f i) ≡ false → answer f s i .word ≡ answer h t i .word
+  pub words : (i : ℕ) → i < n → to-member G (f i) ≡ false → answer f s i .seen .word ≡ answer h t i .seen .word
   pub tables : after f n s .tables ≡ after h n t .tables
   pub memory : Alike (still-marked (marks G (s .tables)) f s n) (after f n s .memory) (after h n t .memory)
 
 -- ══ and at the calls ══
 -- one action or one frame, a, that does t in the first run: what the two calls come to
 pub record SameAnswer (G : Group) (k : Marks) (t : Touch) (a : Action) (x y : Outcome) : Type 0 where
-  pub number : x .number ≡ y .number
-  pub word : to-member G a ≡ false → x .word ≡ y .word
+  pub number : x .seen .number ≡ y .seen .number
+  pub word : to-member G a ≡ false → x .seen .word ≡ y .seen .word
   pub tables : x .tables ≡ y .tables
   pub memory : Alike (left-marked t k) (x .memory) (y .memory)
 

@@ -1,87 +1,38 @@
 -- The loop over the lines of a piece: what it knows on its way.
 use mathlib.Core.Path.{_≡_, refl, sym, ap, _∙_}
-use mathlib.Core.Bool.{Bool, true, not, _&&_, _||_}
-use mathlib.Core.List.{List, [], _∷_, _++_}
+use mathlib.Core.Bool.{Bool}
+use mathlib.Core.List.{List, [], _++_}
 use Prim.Native.Nat.{ℕ, suc, _+_, _-_, _*_, _≤_, _<_, _^_}
 use native.Mathlib.Omega.{arith}
 use mir.Syntax.{w64}
 use mir.Val.{Fits}
-use lib.Dec.{eqb, leb}
+use lib.Dec.{eqb}
 use lib.ListN.{length, take, drop, length-take, length-drop, drop-of-length-le}
-use lib.Seq.{sets, length-sets, drop-drop, take-all}
+use lib.Seq.{length-sets, drop-drop, take-all}
 use Rattle.numbers.specs.Search.{first}
-use Rattle.numbers.specs.Frames.{decode, frame-number}
-use Rattle.numbers.specs.declared.frames.Action.{Action}
-use Rattle.numbers.specs.Tests.{_and_}
-use Rattle.numbers.proofs.Bools.{split, and-l, and-r}
 use Rattle.numbers.proofs.SearchLaws.{first-le}
 use Rattle.tables.specs.declared.state.Tables.{Tables}
-use Rattle.rules.specs.Actions.{does}
-use Rattle.rules.specs.Calls.{op-of, action-rules, taken}
-use Rattle.rules.proofs.Words.{length-touched}
-use Rattle.actions.specs.Lent.{lent, Observed, observed}
-use Rattle.actions.specs.Lent.{left as seen-left}
-use Rattle.actions.specs.declared.guests.Seen.{Seen}
-use Rattle.calls.specs.Lists.{checked}
-use Rattle.calls.proofs.ListLaws.{still-tables, checked-as, still-kind}
-use Rattle.lines.specs.Text.{well-shaped, bytes-of, feed, Cut, cut, unended}
-use Rattle.lines.specs.Log.{Log, Turn, turn, spelt, answer-line, answer-bytes}
-use Rattle.lines.specs.Pieces.{kept, held, Passed, reached}
-use Rattle.lines.specs.Walks.{heard, answered, added, feeds, Way, way, way-of, turned, stepped, walked, held-by, gone, closed}
-use Rattle.lines.specs.declared.text.Heard.{Heard}
-use Rattle.lines.specs.declared.line.Line.{Line}
-use Rattle.lines.specs.declared.replay.Answer.{Answer}
+use Rattle.text.specs.Text.{feed, Cut, cut, unended}
+use Rattle.text.specs.Answers.{spelt, answer-bytes, placed}
+use Rattle.text.specs.Line.{kept, held}
+use Rattle.text.specs.Walks.{added, feeds}
+use Rattle.text.specs.declared.line.Line.{Line}
+use Rattle.text.proofs.TextLaws.{ahead}
+use Rattle.text.proofs.Cuts.{cut-line, cut-rest, feeds-line, one-line}
+use Rattle.text.proofs.AnswerLaws.{placed-in}
+use Rattle.text.proofs.LineLaws.{held-nothing, added-kept}
+use Rattle.lines.specs.Log.{Turn, turn, answer-line}
+use Rattle.lines.specs.Pieces.{Passed, reached}
+use Rattle.lines.specs.Walks.{Way, way-of, stepped, walked, held-by, gone, closed}
 use Rattle.lines.specs.declared.replay.Fed.{Fed}
-use Rattle.lines.proofs.TextLaws.{ahead}
-use Rattle.lines.proofs.Cuts.{cut-line, cut-rest, feeds-line}
-use Rattle.lines.proofs.LineLaws.{held-nothing, added-kept, turn-heard, turn-action}
+use Rattle.lines.proofs.TurnLaws.{turn-long}
 
--- ── one line ──
--- memory keeps its length
-pub turn-long : (s : Log) (l : List ℕ) → length (turn s l .log .memory) ≡ length (s .memory)
-unfolding turn
-turn-long s l = split (well-shaped l)
-    (λ t. split (s .booted)
-    (λ b. let a = decode (bytes-of l) in rw (t, b) (length-touched (does (action-rules (s .tables) a) (s .tables) (op-of a)) (s .memory)))
-    (λ b. rw (t, b)))
-    (λ t. rw t)
-
--- where a line's turn leads
-abbrev led : List ℕ → ℕ → Turn → Way
-led out written t = record { log = t .log; out = sets out written (answer-line t); written = written + answer-bytes }
-
-module _ (l : List ℕ) (booted : Bool) (m : Tables) (ws out : List ℕ) (written : ℕ) {h : Heard} (q : h ≡ heard l) where
-  -- with the tables moved
-  pub step-moved : {r : Answer} {vs out′ : List ℕ} → turned r vs ≡ answered h (record { booted = booted; tables = m; memory = ws }) →
-      out′ ≡ sets out written (spelt (r .number) (r .word)) →
-      way (r .booted) (r .tables) vs out′ (written + answer-bytes) ≡ stepped l (way booted m ws out written)
-  unfolding stepped
-  step-moved {r} {vs} e p =
-      let s : Log = record { booted = booted; tables = m; memory = ws } in
-      rw p (ap (led out written) (e ∙ ap (λ (x : Heard). answered x s) q ∙ turn-heard s l))
-
-  -- on lent parts of them
-  pub step-lent : {a : Action} {n : ℕ} {s : Seen} {vs out′ : List ℕ} → a ≡ decode (h .bytes) → n ≡ frame-number a →
-      (booted && (not (eqb n 0) || leb (a .kind) 5)) ≡ true →
-      seen-left s vs ≡ checked n (lent (m .present) (m .running) (m .map) (m .tlb) (m .«io_map») (m .«io_tlb»)) a ws →
-      out′ ≡ sets out written (spelt (s .number) (s .word)) →
-      way booted m vs out′ (written + answer-bytes) ≡ stepped l (way booted m ws out written)
-  unfolding stepped _and_
-  step-lent {a} {n} {s} {vs} d e t k p =
-      let b : booted ≡ true = and-l booted (not (eqb n 0) || leb (a .kind) 5) t in
-      let own : n ≡ 0 → a .kind ≤ 5 = still-kind n (a .kind) (and-r booted (not (eqb n 0) || leb (a .kind) 5) t) in
-      let o = taken m a ws in
-      let log : Log = record { booted = booted; tables = m; memory = ws } in
-      let on : Bool → Tables → Observed → Way = λ b t x. record {
-        log = record { booted = b; tables = t; memory = x .memory };
-        out = sets out written (spelt (x .number) (x .word));
-        written = written + answer-bytes;
-      } in
-      rw p (ap (on booted m) (checked-as m a ws e own k)
-      ∙ ap (λ (t : Tables). on booted t (observed o)) (sym (still-tables m a ws (λ z. own (e ∙ z))))
-      ∙ ap (λ (b : Bool). on b (o .tables) (observed o)) b
-      ∙ ap (λ (x : Action). let y = taken m x ws in on true (y .tables) (observed y)) (d ∙ ap (λ (x : Heard). decode (x .bytes)) q)
-      ∙ sym (ap (led out written) (turn-action log l b)))
+-- ── one line: its answer stands in the room ──
+pub step-by : (l : List ℕ) (w : Way) {t : Turn} {out : List ℕ} → w .written + answer-bytes ≤ length (w .out) → t ≡ turn (w .log) l →
+    out ≡ placed (w .out) (w .written) (spelt (t .seen)) →
+    record { log = t .log; out = out; written = w .written + answer-bytes } ≡ stepped l w
+unfolding stepped
+step-by l w {t} room e p = rw (p, placed-in (w .out) (w .written) (t .seen) room, e)
 
 -- ── an accepted piece ──
 pub reached-as : {r : Fed} {written : ℕ} {line : Line} {booted : Bool} {m : Tables} {ws out : List ℕ} {p : Passed} →
@@ -210,29 +161,17 @@ module _ (bytes : List ℕ) (line₀ : Line) (w₀ : Way) where
         ap (λ (x : Line). record { number = 0; written = w .written; line = x; log = w .log; out = w .out }) (q .tidy) ∙ along-end l
 
 -- ── the end of the log ──
-one-line : (l : List ℕ) → 0 < length l → unended l ≡ l ∷ []
-unfolding unended
-one-line [] h = absurd (omega arith)
-one-line (b ∷ l) h = refl
-
 module _ (p : Passed) {x : Line} (e : x ≡ kept []) where
   pub closed-none : p .line .count ≡ 0 → record { number = 0; written = p .written; line = x; log = p .log; out = p .out } ≡ closed p
   unfolding closed held unended walked
   closed-none z = rw (e, z)
 
-  pub closed-one : {h : Heard} {r : Answer} {vs out′ : List ℕ} → (p .line .count ≡ 0 → ⊥) → length (p .line .text) ≡ 33 →
-      h ≡ heard (held (p .line)) → turned r vs ≡ answered h (p .log) →
-      out′ ≡ sets (p .out) (p .written) (spelt (r .number) (r .word)) →
-      record {
-        number = 0;
-        written = p .written + answer-bytes;
-        line = x;
-        log = record { booted = r .booted; tables = r .tables; memory = vs };
-        out = out′;
-      } ≡ closed p
+  pub closed-one : {t : Turn} {out : List ℕ} → (p .line .count ≡ 0 → ⊥) → length (p .line .text) ≡ 33 →
+      p .written + answer-bytes ≤ length (p .out) → t ≡ turn (p .log) (held (p .line)) →
+      out ≡ placed (p .out) (p .written) (spelt (t .seen)) →
+      record { number = 0; written = p .written + answer-bytes; line = x; log = t .log; out = out } ≡ closed p
   unfolding closed walked held
-  closed-one {h} n k q t o =
+  closed-one n k room q o =
       let l = held (p .line) in
       let some : 0 < length l = let m = length-take (p .line .count) (p .line .text) in omega arith in
-      rw e (ap (held-by []) (step-moved l (p .log .booted) (p .log .tables) (p .log .memory) (p .out) (p .written) q t o
-      ∙ ap (λ (ls : List (List ℕ)). walked ls (way-of p)) (sym (one-line l some))))
+      rw e (ap (held-by []) (step-by l (way-of p) room q o ∙ ap (λ (ls : List (List ℕ)). walked ls (way-of p)) (sym (one-line l some))))

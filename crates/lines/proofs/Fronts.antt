@@ -1,49 +1,24 @@
--- Before a piece: what stands open, and whether there is room. And one line, by what it says.
+-- Before a piece: whether there is room for its answers, and the call's own number.
 use mathlib.Core.Path.{_≡_, refl, sym, ap, _∙_}
 use mathlib.Core.Bool.{Bool, true, false, not, _&&_, _||_}
-use mathlib.Core.List.{List, [], _∷_}
+use mathlib.Core.List.{List}
 use mathlib.Core.Logic.{⊎-elim}
-use Prim.Native.Nat.{ℕ, _+_, _-_, _*_, _/_, _≤_, min}
+use Prim.Native.Nat.{ℕ, _+_, _*_, _/_, _≤_}
 use native.Mathlib.Omega.{arith}
 use lib.Dec.{eqb, leb, ltb}
-use lib.ListN.{length, take, getD, length-take}
-use borrow.Author.Tests.{eqb-true, eq-eqb, leb-true, le-leb, ltb-true, lt-ltb, not-true, not-false}
+use lib.ListN.{length}
+use borrow.Author.Tests.{leb-true, le-leb, ltb-true, lt-ltb, not-true, not-false}
 use Rattle.numbers.specs.Sizes.{pages, page-words, memory-words}
 use Rattle.numbers.specs.Rules.{least}
-use Rattle.numbers.specs.Frames.{big, decode}
 use Rattle.numbers.specs.Tests.{_or_, isnt}
-use Rattle.numbers.specs.declared.frames.Action.{Action}
 use Rattle.numbers.proofs.Bools.{split, bool-ext, or-e, or-ir, isnt-i, isnt-no}
-use Rattle.tables.specs.State.{boot}
 use Rattle.tables.specs.Wf.{wf}
 use Rattle.tables.specs.declared.state.Tables.{Tables}
-use Rattle.rules.specs.Calls.{taken}
-use Rattle.actions.specs.Answers.{after}
-use Rattle.actions.specs.declared.machine.Out.{Out}
-use Rattle.lines.specs.Text.{Cut, feed, cut, all-lines}
-use Rattle.lines.specs.Log.{Log, bad, answer-bytes}
-use Rattle.lines.specs.Pieces.{held, lines-in, piece-rules}
-use Rattle.lines.specs.Walks.{answered, feeds}
-use Rattle.lines.specs.declared.text.Heard.{Heard}
-use Rattle.lines.specs.declared.line.Line.{Line}
-use Rattle.lines.proofs.Cuts.{ended-feeds, rest-last, length-all-lines}
-use Rattle.lines.proofs.LineLaws.{turn-of}
-
--- ── what stands open ──
-pub open-before : (x : Line) (l : List ℕ) → length (x .text) ≡ 33 → length l ≡ 0 →
-    not (eqb (x .count) 0) ≡ isnt (eqb (length (cut (held x) l .rest)) 0)
-unfolding cut held isnt
-open-before x [] n e =
-    let k : length (take (x .count) (x .text)) ≡ min (x .count) (length (x .text)) = length-take (x .count) (x .text) in
-    ap not (bool-ext _ _
-    (λ t. let z = eqb-true (x .count) 0 t in eq-eqb (length (take (x .count) (x .text))) 0 (omega arith))
-    (λ t. let z = eqb-true (length (take (x .count) (x .text))) 0 t in eq-eqb (x .count) 0 (omega arith)))
-open-before x (b ∷ l) n e = absurd (omega arith)
-
-pub open-last : (x : Line) (l : List ℕ) → (length l ≡ 0 → ⊥) →
-    not (eqb (getD l (length l - 1) 0) 10) ≡ isnt (eqb (length (cut (held x) l .rest)) 0)
-unfolding feed isnt
-open-last x l n = ap not (sym (rest-last (held x) l (omega arith)))
+use Rattle.text.specs.Text.{Cut, cut, all-lines}
+use Rattle.text.specs.Answers.{answer-bytes}
+use Rattle.text.specs.Walks.{feeds}
+use Rattle.text.proofs.Cuts.{ended-feeds, length-all-lines}
+use Rattle.lines.specs.Pieces.{lines-in, piece-rules}
 
 -- ── room ──
 -- a line more, or not, counted in lines and in bytes
@@ -99,21 +74,3 @@ module _ (last : Bool) (so-far bytes : List ℕ) (m : Tables) (memory room : ℕ
       0 ≡ least (piece-rules (length (lines-in last (cut so-far bytes))) m memory room)
   unfolding least
   own-0 {w} t e n = rw (sym asked ∙ t, isnt-no (sym e ∙ not-false w n))
-
--- ── one line, by what it says ──
-module _ (h : Heard) (s : Log) where
-  pub turn-bad : not (h .good) ≡ true → bad s ≡ answered h s
-  unfolding answered
-  turn-bad g = rw (not-true (h .good) g)
-
-  pub turn-boot : {p q : ℕ} {m : Tables} → not (h .good) ≡ false → not (s .booted) ≡ true →
-      p ≡ big 8 (h .bytes) 0 → q ≡ big 8 (h .bytes) 8 → m ≡ boot p q →
-      record { number = 0; word = 0; log = record { booted = true; tables = m; memory = s .memory } } ≡ answered h s
-  unfolding answered
-  turn-boot g b e f k = rw (not-false (h .good) g, not-true (s .booted) b, k, e, f)
-
-  pub turn-frame : {a : Action} {r : Out} {vs : List ℕ} → not (h .good) ≡ false → not (s .booted) ≡ false →
-      a ≡ decode (h .bytes) → after r vs ≡ taken (s .tables) a (s .memory) →
-      record { number = r .number; word = r .word; log = record { booted = s .booted; tables = r .tables; memory = vs } } ≡ answered h s
-  unfolding answered
-  turn-frame g b e k = rw (not-false (h .good) g, not-false (s .booted) b, ← e) (ap turn-of k)

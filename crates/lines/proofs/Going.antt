@@ -1,4 +1,4 @@
--- A call with a piece, from its parts: its own number, the line made tidy, its lines, and the end of the log.
+-- A call with a piece, from its parts: its own number, its lines, and the end of the log.
 use mathlib.Core.Path.{_≡_, sym, ap, _∙_, subst}
 use mathlib.Core.Bool.{Bool, true, false}
 use mathlib.Core.List.{List, _++_}
@@ -8,19 +8,21 @@ use lib.Dec.{eqb, ltb}
 use lib.ListN.{length, take, drop, length-drop, length-append}
 use lib.Seq.{length-take-le}
 use borrow.Author.Tests.{eqb-true, eq-eqb, ne-eqb, ltb-false}
-use Rattle.numbers.specs.Sizes.{frame-bytes, memory-words}
+use Rattle.numbers.specs.Sizes.{memory-words}
 use Rattle.numbers.specs.Rules.{least}
 use Rattle.numbers.specs.Tests.{_or_, isnt}
 use Rattle.numbers.proofs.Bools.{split, or-r}
 use Rattle.tables.specs.declared.state.Tables.{Tables}
-use Rattle.lines.specs.Text.{line-digits, Cut, cut, all-lines}
-use Rattle.lines.specs.Log.{Log, answer-bytes, answers}
-use Rattle.lines.specs.Pieces.{most, kept, held, lines-in, left-open, piece-rules, Passed, refused, passed, piece, reached}
-use Rattle.lines.specs.Walks.{feeds, gone, closed}
-use Rattle.lines.specs.declared.line.Line.{Line}
+use Rattle.text.specs.Text.{Cut, cut, all-lines}
+use Rattle.text.specs.Answers.{answer-bytes}
+use Rattle.text.specs.Line.{most, kept, held}
+use Rattle.text.specs.Walks.{feeds}
+use Rattle.text.specs.declared.line.Line.{Line}
+use Rattle.text.proofs.Cuts.{ended-feeds, length-all-lines}
+use Rattle.lines.specs.Log.{Log, answers}
+use Rattle.lines.specs.Pieces.{lines-in, left-open, piece-rules, Passed, refused, passed, piece, reached}
+use Rattle.lines.specs.Walks.{gone, closed}
 use Rattle.lines.specs.declared.replay.Fed.{Fed}
-use Rattle.lines.proofs.Cuts.{ended-feeds, length-all-lines}
-use Rattle.lines.proofs.LineLaws.{kept-held, held-tidy}
 use Rattle.lines.proofs.Walked.{length-answers, passed-feed, passed-end}
 
 -- no more lines than there is room for
@@ -55,15 +57,7 @@ module _ (last : Bool) (line : Line) (s : Log) (bytes out : List ℕ) {own : ℕ
   unfolding piece
   refused-is n = rw (← e, ne-eqb own 0 n)
 
-  module _ (z : own ≡ 0) (n : length (line .text) ≡ 33) {x : Line} (t : x ≡ kept (held line)) where
-    -- the same text, made tidy
-    pub tidied : x ≡ kept (held x)
-    tidied = t ∙ sym (kept-held (held line)) ∙ ap (λ (y : Line). kept (held y)) (sym t)
-
-    text-kept : held x ≡ held line
-    unfolding most line-digits frame-bytes
-    text-kept = ap held t ∙ held-tidy line n
-
+  module _ (z : own ≡ 0) where
     room : length (lines-in last (cut (held line) bytes)) * answer-bytes ≤ length out
     room = room-of _ _ _ _ (sym e ∙ z)
 
@@ -81,11 +75,9 @@ module _ (last : Bool) (line : Line) (s : Log) (bytes out : List ℕ) {own : ℕ
     room-for-lines = subst (λ (k : ℕ). k * answer-bytes ≤ length out) (ended-feeds (held line) bytes) ended-room
 
     -- the lines that the piece ends
-    module _ {y : Passed} (g : y ≡ gone (held x) bytes (record { log = s; out = out; written = 0 })) where
+    module _ {y : Passed} (g : y ≡ gone (held line) bytes (record { log = s; out = out; written = 0 })) where
       lines-passed : y ≡ passed (cut (held line) bytes .ended) (cut (held line) bytes .rest) s out
-      lines-passed =
-          g ∙ ap (λ (l : List ℕ). gone l bytes (record { log = s; out = out; written = 0 })) text-kept
-          ∙ passed-feed line s bytes out ended-room
+      lines-passed = g ∙ passed-feed line s bytes out ended-room
 
       pub fed-is : last ≡ false → y ≡ piece last line s bytes out
       fed-is f = lines-passed ∙ accepted-is false f
@@ -98,11 +90,7 @@ module _ (last : Bool) (line : Line) (s : Log) (bytes out : List ℕ) {own : ℕ
           (room-left (cut (held line) bytes) s out (all-room f))
 
       pub closed-is : {v : Passed} → last ≡ true → v ≡ closed y → v ≡ piece last line s bytes out
-      closed-is f h =
-          h ∙ ap closed g
-          ∙ ap (λ (l : List ℕ). closed (gone l bytes (record { log = s; out = out; written = 0 }))) text-kept
-          ∙ passed-end line s bytes out (all-room f)
-          ∙ accepted-is true f
+      closed-is f h = h ∙ ap closed g ∙ passed-end line s bytes out (all-room f) ∙ accepted-is true f
 
 -- ── what is written stands in the room ──
 written-le : (last : Bool) (line : Line) (s : Log) (bytes out : List ℕ) {p : Passed} → p ≡ piece last line s bytes out → p .written ≤ length (p .out)

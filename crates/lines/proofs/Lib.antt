@@ -1,6 +1,4 @@
-pub mod TextLaws
-pub mod Cuts
-pub mod LineLaws
+pub mod TurnLaws
 pub mod Fronts
 pub mod Walked
 pub mod Along

@@ -1,35 +1,29 @@
 -- From the walk of the code to what is promised.
 use mathlib.Core.Path.{_≡_, refl, sym, ap, _∙_}
 use mathlib.Core.List.{List, [], _∷_, _++_, append-assoc, append-nil}
-use Prim.Native.Nat.{ℕ, zero, suc, _+_, _*_, _/_, _%_, _≤_}
-use native.Mathlib.Nat.{add-zero}
+use Prim.Native.Nat.{ℕ, _+_, _*_, _≤_}
 use native.Mathlib.Omega.{arith}
-use lib.ListN.{length, take, drop, set, length-append}
-use lib.Seq.{sets, sets-eq, set-comm, take-append-seam, drop-append-add, drop-drop, length-take-le, length-front}
-use Rattle.lines.specs.Text.{glyph, digits, feed, Cut, cut, unended, all-lines}
-use Rattle.lines.specs.Log.{Log, turn, spelt, answer-line, answer-bytes, after-lines, answers}
-use Rattle.lines.specs.Pieces.{most, held, passed}
-use Rattle.lines.specs.Walks.{spelling, Way, stepped, walked, held-by, gone, closed}
-use Rattle.lines.specs.declared.line.Line.{Line}
-use Rattle.lines.proofs.LineLaws.{held-kept, turn-short}
+use lib.ListN.{length, take, drop, length-append}
+use lib.Seq.{sets, sets-eq, take-append-seam, drop-append-add, drop-drop, length-take-le, length-front}
+use Rattle.text.specs.Text.{Cut, cut, unended, all-lines}
+use Rattle.text.specs.Answers.{answer-bytes}
+use Rattle.text.specs.Line.{most, held}
+use Rattle.text.specs.declared.line.Line.{Line}
+use Rattle.text.proofs.AnswerLaws.{length-spelt}
+use Rattle.text.proofs.LineLaws.{held-kept}
+use Rattle.lines.specs.Log.{Log, turn, answer-line, after-lines, answers}
+use Rattle.lines.specs.Pieces.{passed}
+use Rattle.lines.specs.Walks.{Way, stepped, walked, held-by, gone, closed}
+use Rattle.lines.proofs.TurnLaws.{turn-short}
 
 -- ── lengths ──
-pub length-digits : (n w : ℕ) → length (digits n w) ≡ n
-unfolding digits
-length-digits zero w = refl
-length-digits (suc n) w = let i = length-digits n (w / 16) in rw length-append (omega arith)
-
-pub length-spelt : (n w : ℕ) → length (spelt n w) ≡ answer-bytes
-unfolding spelt answer-bytes
-length-spelt n w = simp (length-append, length-digits)
-
 pub length-answers : (s : Log) (ls : List (List ℕ)) → length (answers s ls) ≡ length ls * answer-bytes
 unfolding answers answer-bytes
 length-answers s [] = refl
 length-answers s (l ∷ later) =
     let t = turn s l in
     let i = length-answers (t .log) later in
-    let n = length-spelt (t .number) (t .word) in
+    let n = length-spelt (t .seen) in
     length-append (answer-line t) (answers (t .log) later) ∙ omega arith
 
 -- ── lines after lines ──
@@ -65,7 +59,7 @@ stepped-from : (l : List ℕ) (s : Log) (done out : List ℕ) → length done + 
 unfolding stepped
 stepped-from l s done out h =
     let v = answer-line (turn s l) in
-    let n : length v ≡ answer-bytes = length-spelt (turn s l .number) (turn s l .word) in
+    let n : length v ≡ answer-bytes = length-spelt (turn s l .seen) in
     let m : length done + answer-bytes ≡ length (done ++ v) = rw (length-append, n) in
     rw (m, sets-after done v out (omega arith))
 
@@ -75,7 +69,7 @@ unfolding walked after-lines answers
 walked-from [] s done out h = rw append-nil
 walked-from (l ∷ later) s done out h =
     let t = turn s l in
-    let n = length-spelt (t .number) (t .word) in
+    let n = length-spelt (t .seen) in
     let m = length-append done (answer-line t) in
     ap (walked later) (stepped-from l s done out (omega arith))
     ∙ walked-from later (t .log) (done ++ answer-line t) out (omega arith)
@@ -118,33 +112,3 @@ module _ (line : Line) (s : Log) (bytes out : List ℕ) where
       ∙ walked-kept (c .rest) (walked (c .ended) before)
       ∙ sym (walked-append (c .ended) (unended (c .rest)) before)
       ∙ walked-is (all-lines c) s out h)
-
--- ── digits, as they are written ──
-sets-append : (a b l : List ℕ) (i : ℕ) → sets l i (a ++ b) ≡ sets (sets l i a) (i + length a) b
-sets-append [] b l i = rw add-zero
-sets-append (v ∷ a) b l i =
-    let n : suc i + length a ≡ i + suc (length a) = omega arith in sets-append a b (set l i v) (suc i) ∙ rw n
-
--- the last one first
-sets-last : (vs l : List ℕ) (i a : ℕ) → sets (set l (i + length vs) a) i vs ≡ sets l i (vs ++ a ∷ [])
-sets-last [] l i a = rw add-zero
-sets-last (v ∷ vs) l i a =
-    let n : i + suc (length vs) ≡ suc i + length vs = omega arith in
-    rw (n, set-comm l (suc i + length vs) i a v (λ (e : suc i + length vs ≡ i). omega arith)) (sets-last vs (set l i v) (suc i) a)
-
-pub spelling-is : (n at w : ℕ) (out : List ℕ) → spelling n at w out ≡ sets out at (digits n w)
-unfolding spelling digits
-spelling-is zero at w out = refl
-spelling-is (suc n) at w out =
-    let g = glyph (w % 16) in
-    spelling-is n at (w / 16) (set out (at + n) g)
-    ∙ ap (λ (k : ℕ). sets (set out (at + k) g) at (digits n (w / 16))) (sym (length-digits n (w / 16)))
-    ∙ sets-last (digits n (w / 16)) out at g
-
-pub put-is : (out : List ℕ) (at n w : ℕ) → set (spelling 16 (at + 2) w (spelling 2 at n out)) (at + 18) feed ≡ sets out at (spelt n w)
-unfolding spelt
-put-is out at n w =
-    let k : length (digits 2 n ++ digits 16 w) ≡ 18 = simp (length-append, length-digits) in
-    rw (spelling-is 2 at n out, spelling-is 16 (at + 2) w (sets out at (digits 2 n)))
-    (sym (sets-append (digits 2 n ++ digits 16 w) (feed ∷ []) out at
-    ∙ rw (k, sets-append (digits 2 n) (digits 16 w) out at, length-digits 2 n)))

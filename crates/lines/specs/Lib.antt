@@ -1,4 +1,3 @@
-pub mod Text
 pub mod Log
 pub mod Pieces
 pub mod Walks

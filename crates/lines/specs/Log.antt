@@ -5,10 +5,13 @@ use mathlib.Core.List.{List, [], _∷_, _++_}
 use lib.ListN.{replicate}
 use Rattle.numbers.specs.Sizes.{memory-words}
 use Rattle.numbers.specs.Frames.{big, decode}
+use Rattle.numbers.specs.Answers.{wordless}
+use Rattle.numbers.specs.declared.answers.Seen.{Seen}
+use Rattle.text.specs.Text.{well-shaped, bytes-of, lines}
+use Rattle.text.specs.Answers.{spelt}
 use Rattle.tables.specs.State.{empty, boot}
 use Rattle.tables.specs.declared.state.Tables.{Tables}
 use Rattle.rules.specs.Calls.{taken}
-use Rattle.lines.specs.Text.{digits, well-shaped, bytes-of, feed, lines}
 
 -- the machine behind a log
 pub record Log : Type 0 where
@@ -18,45 +21,34 @@ pub record Log : Type 0 where
 
 -- what a line gets, and what it leaves
 pub record Turn : Type 0 where
-  pub number : ℕ
-  pub word : ℕ
+  pub seen : Seen
   pub log : Log
 
 -- the boot line: the mask of the hypervisor's pages, then the region's. Memory is kept
 abbrev pub boots : List ℕ → Log → Turn
 boots bytes s = record {
-  number = 0;
-  word = 0;
+  seen = wordless 0;
   log = record { booted = true; tables = boot (big 8 bytes 0) (big 8 bytes 8); memory = s .memory };
 }
 
 -- a frame's line
 abbrev pub acts : List ℕ → Log → Turn
 acts bytes s = let o = taken (s .tables) (decode bytes) (s .memory) in record {
-  number = o .number;
-  word = o .word;
+  seen = o .seen;
   log = record { booted = true; tables = o .tables; memory = o .memory };
 }
 
 -- a bad line
 abbrev pub bad : Log → Turn
-bad s = record { number = 3; word = 0; log = s }
+bad s = record { seen = wordless 3; log = s }
 
 -- a bad line gets 3; the first one that is well shaped is the boot; all others are frames
 unfoldable pub turn : Log → List ℕ → Turn
 turn s l = cond (well-shaped l) (cond (s .booted) (acts (bytes-of l) s) (boots (bytes-of l) s)) (bad s)
 
 -- ══ the answer line of one input line ══
--- 2 digits of number, 16 of word, a line feed
-unfoldable pub spelt : ℕ → ℕ → List ℕ
-spelt number word = digits 2 number ++ digits 16 word ++ feed ∷ []
-
 abbrev pub answer-line : Turn → List ℕ
-answer-line t = spelt (t .number) (t .word)
-
--- how many bytes that are
-unfoldable pub answer-bytes : ℕ
-answer-bytes = 19
+answer-line t = spelt (t .seen)
 
 -- ══ line by line ══
 unfoldable pub after-lines : Log → List (List ℕ) → Log

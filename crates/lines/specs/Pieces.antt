@@ -1,37 +1,22 @@
 -- A log over lent bytes, a piece at a time: the line that a piece leaves open is kept for the next one.
-use Prim.Native.Nat.{ℕ, zero, suc, _*_, min}
+use Prim.Native.Nat.{ℕ, _*_}
 use mathlib.Core.Bool.{Bool, cond}
 use mathlib.Core.List.{List, [], _∷_, _++_}
 use lib.Dec.{eqb, ltb}
-use lib.ListN.{length, take, drop}
+use lib.ListN.{length, drop}
 use Rattle.numbers.specs.Sizes.{memory-words}
 use Rattle.numbers.specs.Tests.{_or_, isnt}
 use Rattle.numbers.specs.Rules.{Rules, least}
 use Rattle.numbers.specs.Rules.Rules.{accept, _⇒_∣_}
 use Rattle.tables.specs.Wf.{wf}
 use Rattle.tables.specs.declared.state.Tables.{Tables}
-use Rattle.lines.specs.Text.{line-digits, Cut, cut, all-lines}
-use Rattle.lines.specs.Log.{Log, after-lines, answers, answer-bytes}
-use Rattle.lines.specs.declared.line.Line.{Line}
+use Rattle.text.specs.Text.{Cut, cut, all-lines}
+use Rattle.text.specs.Answers.{answer-bytes}
+use Rattle.text.specs.Line.{kept, held}
+use Rattle.text.specs.declared.line.Line.{Line}
+use Rattle.lines.specs.Log.{Log, after-lines, answers}
 use Rattle.lines.specs.declared.replay.Replay.{Replay}
 use Rattle.lines.specs.declared.replay.Fed.{Fed}
-
--- ── the unfinished line ──
--- of its bytes one more is kept than a line of good shape has: so a line of any length costs no more room, and too long stays too long
-unfoldable pub most : ℕ
-most = suc line-digits
-
-unfoldable pub padded : ℕ → List ℕ → List ℕ
-padded zero l = []
-padded (suc n) [] = 0 ∷ padded n []
-padded (suc n) (b ∷ l) = b ∷ padded n l
-
-unfoldable pub kept : List ℕ → Line
-kept l = record { count = min (length l) most; text = padded most l }
-
--- the text that is kept
-unfoldable pub held : Line → List ℕ
-held x = take (x .count) (x .text)
 
 -- ── one call ──
 -- the lines that a piece ends; the last piece ends its last line too

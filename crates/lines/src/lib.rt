@@ -1,5 +1,2 @@
 // The replay of a log: lines of hexadecimal digits in, an answer line for each out.
-pub mod answers;
-pub mod line;
 pub mod replay;
-pub mod text;

@@ -3,24 +3,26 @@ ghost use mathlib.Core.Path.{_≡_};
 ghost use mathlib.Core.Bool.{true, false};
 ghost use mathlib.Core.List.{[]};
 ghost use Prim.Native.Nat.{_+_, _*_, _≤_};
-ghost use lib.Dec.{eqb};
 ghost use lib.ListN.{length};
 ghost use Rattle.numbers.specs.Rules.{least};
-ghost use Rattle.numbers.specs.Tests.{isnt};
+ghost use Rattle.numbers.specs.Frames.{decode, frame-number};
 ghost use Rattle.tables.specs.State.{empty};
-ghost use Rattle.lines.specs.Text.{cut};
-ghost use Rattle.lines.specs.Log.{answer-bytes};
-ghost use Rattle.lines.specs.Pieces.{kept, held, lines-in, piece-rules, piece, log-of, reached};
-ghost use Rattle.lines.specs.Walks.{answered, feeds, way, turned, gone, closed};
-use crate::answers;
-use crate::line::Line;
-use crate::text;
-use crate::text::Heard;
-use calls::lists;
+ghost use Rattle.text.specs.Text.{cut};
+ghost use Rattle.text.specs.Answers.{answer-bytes};
+ghost use Rattle.text.specs.Line.{kept, held};
+ghost use Rattle.text.specs.Walks.{feeds};
+ghost use Rattle.lines.specs.Pieces.{lines-in, piece-rules, piece, log-of, reached};
+ghost use Rattle.lines.specs.Walks.{answered, way, turned, gone, closed};
+use calls::referee;
 use calls::referee::Referee;
+use numbers::answers::Seen;
 use numbers::frames;
 use numbers::frames::Action;
 use tables::state::Tables;
+use text::answers;
+use text::input;
+use text::input::Heard;
+use text::line::Line;
 
 // Where a log stands between two pieces: the line that is not finished, whether the boot line has come, the tables.
 pub struct Replay {
@@ -38,20 +40,20 @@ pub struct Fed {
 
 // What a line gets, and what it leaves.
 struct Answer {
-    number: u8,
-    word: u64,
+    seen: Seen,
     booted: bool,
     tables: Tables,
 }
 
 // ── one line ──
-fn turn(booted: bool, tables: Tables, heard: Heard, mem: &mut [u64]) -> Answer
+// Its action comes decoded and checked, as the loop below has it already.
+fn turn(booted: bool, tables: Tables, heard: Heard, check: u8, a: Action, mem: &mut [u64]) -> Answer
+    requires { ⌜ (a ≡ decode (heard .bytes)) × (check ≡ frame-number a) ⌝ }
     ensures { λ r. ⌜ turned r (now (mem .exit)) ≡ answered heard (record { booted = booted; tables = tables; memory = now (mem .entry) }) ⌝ }
 {
     if !heard.good {
         return Answer {
-            number: 3,
-            word: 0,
+            seen: Seen::wordless(3),
             booted,
             tables,
         };
@@ -59,20 +61,18 @@ fn turn(booted: bool, tables: Tables, heard: Heard, mem: &mut [u64]) -> Answer
     if !booted {
         let hypervisor = frames::word(&heard.bytes, 0);
         let region = frames::word(&heard.bytes, 8);
-        let tables = Tables::boot(hypervisor, region);
         return Answer {
-            number: 0,
-            word: 0,
+            seen: Seen::wordless(0),
             booted: true,
-            tables,
+            tables: Tables::boot(hypervisor, region),
         };
     }
     let referee = Referee { tables };
-    let out = referee.take(Action::decode(&heard.bytes), mem);
+    let out = referee.settle(check, a, mem);
+    let seen = out.seen;
     let tables = out.tables;
     Answer {
-        number: out.number,
-        word: out.word,
+        seen,
         booted,
         tables,
     }
@@ -97,18 +97,17 @@ fn accepted(written: usize, line: Line, booted: bool, tables: Tables) -> Fed
 // ── many lines ──
 // The lines that a piece ends; the bytes after the last feed are kept. Only a line that may change the tables has them moved.
 fn each_line(from: Replay, bytes: &[u8], mem: &mut [u64], out: &mut [u8]) -> Fed
-    requires { ⌜ from .line ≡ kept (held (from .line)) ⌝ }
     requires { ⌜ feeds (now bytes) * answer-bytes ≤ length (now out) ⌝ }
     ensures { λ r. ⌜ reached r (now (mem .exit)) (now (out .exit))
         ≡ gone (held (from .line)) (now (bytes .entry)) (way (from .booted) (from .tables) (now (mem .entry)) (now (out .entry)) 0) ⌝ }
 {
-    let mut line = from.line;
+    let mut line = from.line.tidy();
     let mut booted = from.booted;
     let mut tables = from.tables;
     let mut written: usize = 0;
     let mut at: usize = 0;
     while at < bytes.len() {
-        let end = text::line_end(bytes, at);
+        let end = input::line_end(bytes, at);
         if bytes.len() <= end {
             line = line.add(&bytes[at..end]);
             break;
@@ -116,22 +115,22 @@ fn each_line(from: Replay, bytes: &[u8], mem: &mut [u64], out: &mut [u8]) -> Fed
         let heard = line.hear_with(&bytes[at..end]);
         let a = Action::decode(&heard.bytes);
         let check = a.number();
-        if booted & ((check != 0) | (a.kind <= 5)) {
-            let seen = lists::serve(
+        if booted & referee::moves_nothing(check, a.kind) {
+            let seen = referee::serve(
                 check,
+                a,
                 &tables.present,
                 &tables.running,
                 &tables.map,
                 &tables.tlb,
                 &tables.io_map,
                 &tables.io_tlb,
-                a,
                 mem,
             );
-            answers::put(out, written, seen.number, seen.word);
+            answers::put(out, written, seen);
         } else {
-            let t = turn(booted, tables, heard, mem);
-            answers::put(out, written, t.number, t.word);
+            let t = turn(booted, tables, heard, check, a, mem);
+            answers::put(out, written, t.seen);
             booted = t.booted;
             tables = t.tables;
         }
@@ -155,35 +154,26 @@ fn close(fed: Fed, mem: &mut [u64], out: &mut [u8]) -> Fed
     if last.count == 0 {
         return accepted(fed.written, line, booted, tables);
     }
-    let t = turn(booted, tables, last.hear(), mem);
-    answers::put(out, fed.written, t.number, t.word);
+    let heard = last.hear();
+    let a = Action::decode(&heard.bytes);
+    let t = turn(booted, tables, heard, a.number(), a, mem);
+    answers::put(out, fed.written, t.seen);
     accepted(fed.written + answers::BYTES, line, t.booted, t.tables)
 }
 
 // ── before ──
-// The piece does not end with a feed; or it is empty, and bytes came before it.
-fn is_open(line: Line, bytes: &[u8]) -> bool
-    ensures { λ r. ⌜ r ≡ isnt (eqb (length (cut (held line) (now (bytes .entry)) .rest)) 0) ⌝ }
-{
-    let n = bytes.len();
-    if n == 0 {
-        return line.count != 0;
-    }
-    bytes[n - 1] != text::FEED
-}
-
 // 1 for lengths, 2 for tables that are not well formed. A line left open counts where the log ends.
 fn own_number(from: Replay, last: bool, bytes: &[u8], memory: usize, room: usize) -> u8
     ensures { λ r. ⌜ r ≡ least (piece-rules (length (lines-in last (cut (held (from .line)) (now (bytes .entry))))) (from .tables) memory room) ⌝ }
 {
-    let ended = text::feeds(bytes);
-    let more = last & is_open(from.line, bytes);
+    let ended = input::feeds(bytes);
+    let more = last & from.line.is_open(bytes);
     let lines = room / answers::BYTES;
     if (memory != Referee::WORDS) | ((lines < ended) | (more & (lines <= ended))) {
         return 1;
     }
     let tables = from.tables;
-    if !tables.wf() {
+    if !order::wf(tables) {
         return 2;
     }
     0
@@ -213,15 +203,7 @@ impl Replay {
                 replay: self,
             };
         }
-        let line = self.line.tidy();
-        let booted = self.booted;
-        let tables = self.tables;
-        let from = Replay {
-            line,
-            booted,
-            tables,
-        };
-        let fed = each_line(from, bytes, mem, out);
+        let fed = each_line(self, bytes, mem, out);
         if last {
             return close(fed, mem, out);
         }

@@ -16,10 +16,14 @@ use Rattle.numbers.specs.Rules.{least}
 use Rattle.numbers.specs.Search.{first, upto}
 use Rattle.numbers.specs.Addresses.{page-of, offset-of, word-of}
 use Rattle.numbers.specs.Entries.{key-of, entry, access-in, page-in, key-in, readable, writable}
+use Rattle.numbers.specs.Answers.{wordless}
 use Rattle.numbers.specs.Frames.{big, decode, kinds, row-of, uses, stray, beyond}
 use Rattle.numbers.specs.declared.frames.Action.{Action}
 use Rattle.numbers.proofs.Bools.{split, isnt-true}
 use Rattle.numbers.proofs.SearchLaws.{upto-at}
+use Rattle.text.specs.Text.{digit, glyph, digits, line-digits, all-digits, well-shaped, bytes-of, feed, cut, unended, all-lines, lines}
+use Rattle.text.specs.Answers.{spelt, answer-bytes}
+use Rattle.text.specs.Walks.{nothing-heard, heard}
 use Rattle.tables.specs.Table.{all, find, has, full, seat, put, wipe, each, uniq}
 use Rattle.tables.specs.Wants.{has-key}
 use Rattle.tables.specs.State.{reach, effective-entry, bare, empty, bit, tabulate, boot}
@@ -29,9 +33,7 @@ use Rattle.rules.specs.Calls.{op-of, _then_, action-rules, after, answer}
 use Rattle.isolation.specs.Marks.{Marks, ours, marks, left-marked, touch-at, still-marked, with-word, Same, gives-away, Twins}
 use Rattle.isolation.specs.Marks.Same.{same, wrote}
 use Rattle.isolation.proofs.OneGuest.{two-runs}
-use Rattle.lines.specs.Text.{digit, glyph, digits, line-digits, all-digits, well-shaped, bytes-of, feed, cut, unended, all-lines, lines}
-use Rattle.lines.specs.Log.{Log, turn, spelt, answer-bytes, after-lines, answers, start, replay}
-use Rattle.lines.specs.Walks.{nothing-heard, heard}
+use Rattle.lines.specs.Log.{Log, turn, after-lines, answers, start, replay}
 use Rattle.logs.specs.Secrets.{action-of, action-in, machine-of, TwoLogs, line-at, after-text, ReplaysAlike}
 use Rattle.logs.proofs.Isolated.{replays-isolated}
 
@@ -80,8 +82,8 @@ keeps i = let m = after one i (machine-of s) .tables in
 
 -- guest 1 reads its own word; guest 2 reads 0
 pub record Reads (w : ℕ) : Type 0 where
-  pub own : line-at (answers (after-text head) (lines (body w))) 3 ≡ spelt 0 w
-  pub later : line-at (answers (after-text head) (lines (body w))) 9 ≡ spelt 0 0
+  pub own : line-at (answers (after-text head) (lines (body w))) 3 ≡ spelt (record { number = 0; word = w })
+  pub later : line-at (answers (after-text head) (lines (body w))) 9 ≡ spelt (wordless 0)
 
 record Facts : Type 0 where
   ended : cut [] head .rest ≡ []
@@ -166,6 +168,7 @@ differ e =
     let front = replay head in
     let same : x ≡ y =
     sym (drop-append-seam front x) ∙ ap (drop (length front)) (sym (alike .first) ∙ e ∙ alike .second) ∙ drop-append-seam front y in
-    let words : spelt 0 7 ≡ spelt 0 9 = sym (reads .0 .own) ∙ ap (λ (out : List ℕ). line-at out 3) same ∙ reads .1 .own in
+    let words : spelt (record { number = 0; word = 7 }) ≡ spelt (record { number = 0; word = 9 }) =
+    sym (reads .0 .own) ∙ ap (λ (out : List ℕ). line-at out 3) same ∙ reads .1 .own in
     let last-digit : _≡_ {A = ℕ} 55 57 = ap (λ (l : List ℕ). getD l 17 0) words in
     omega arith

@@ -14,15 +14,17 @@ use Rattle.rules.specs.Calls.{Machine, after, answer}
 use Rattle.isolation.specs.Demands.{NothingLearnt, EqualOutside}
 use Rattle.isolation.proofs.CallsIsolated.{promised}
 use Rattle.isolation.proofs.Demands.{demand-3}
-use Rattle.lines.specs.Text.{digits, cut, unended, all-lines, lines}
-use Rattle.lines.specs.Log.{Log, answer-bytes, after-lines, answers, start, replay}
-use Rattle.lines.specs.Pieces.{held, lines-in, left-open, piece-rules, refused, passed, piece, reached}
-use Rattle.logs.specs.Secrets.{action-in, machine-of, TwoLogs, line-at, SameAnswers, LogsAlike, CallsAlike, after-text, ReplaysAlike}
-use Rattle.lines.specs.declared.line.Line.{Line}
+use Rattle.text.specs.Text.{digits, cut, unended, all-lines, lines}
+use Rattle.text.specs.Answers.{spelt, answer-bytes}
+use Rattle.text.specs.Line.{held}
+use Rattle.text.specs.declared.line.Line.{Line}
+use Rattle.text.proofs.Cuts.{cut-append}
+use Rattle.lines.specs.Log.{Log, after-lines, answers, start, replay}
+use Rattle.lines.specs.Pieces.{lines-in, left-open, piece-rules, refused, passed, piece, reached}
 use Rattle.lines.specs.declared.replay.Fed.{Fed}
-use Rattle.lines.proofs.Cuts.{cut-append}
 use Rattle.lines.proofs.Walked.{length-answers, answers-append}
-use Rattle.logs.proofs.Lists.{after-booted, after-is, spelt-of, answer-is, spelt-number}
+use Rattle.logs.specs.Secrets.{action-in, machine-of, TwoLogs, line-at, SameAnswers, LogsAlike, CallsAlike, after-text, ReplaysAlike}
+use Rattle.logs.proofs.Lists.{after-booted, after-is, same-seen, spelt-of, answer-is, spelt-number}
 
 -- ══ line by line ══
 module _ (g : ℕ) (s t : Log) (ls ks : List (List ℕ)) (T : TwoLogs g s t ls ks) where
@@ -40,10 +42,10 @@ module _ (g : ℕ) (s t : Log) (ls ks : List (List ℕ)) (T : TwoLogs g s t ls k
   same-answers = record {
     whole = length-answers s ls;
     long = length-answers s ls ∙ ap (λ (n : ℕ). n * answer-bytes) (T .long) ∙ sym (length-answers t ks);
-    lines = λ i h n. line-of i h ∙ rw (learnt .numbers i h, learnt .words i h n) (sym (other-line i h));
+    lines = λ i h n. line-of i h ∙ ap spelt (same-seen (learnt .numbers i h) (learnt .words i h n)) ∙ sym (other-line i h);
     numbers = λ i h.
-        ap (take 2) (line-of i h) ∙ spelt-number _ _ ∙ ap (digits 2) (learnt .numbers i h)
-        ∙ sym (ap (take 2) (other-line i h) ∙ spelt-number _ _);
+        ap (take 2) (line-of i h) ∙ spelt-number _ ∙ ap (digits 2) (learnt .numbers i h)
+        ∙ sym (ap (take 2) (other-line i h) ∙ spelt-number _);
   }
 
   pub logs-isolated : LogsAlike g s t ls ks

@@ -6,13 +6,15 @@ use Prim.Native.Nat.{ℕ, zero, suc, _+_, _*_, _<_}
 use native.Mathlib.Omega.{arith}
 use lib.ListN.{length, take, drop}
 use lib.Seq.{take-at, drop-append-add}
+use Rattle.numbers.specs.declared.answers.Seen.{Seen}
 use Rattle.numbers.specs.declared.frames.Action.{Action}
 use Rattle.rules.specs.Actions.{Outcome}
 use Rattle.rules.specs.Calls.{taken, Machine, after, answer}
-use Rattle.lines.specs.Text.{digits, feed}
-use Rattle.lines.specs.Log.{Log, Turn, turn, spelt, answer-line, answer-bytes, after-lines, answers}
-use Rattle.lines.proofs.LineLaws.{turn-action}
-use Rattle.lines.proofs.Walked.{length-digits, length-spelt}
+use Rattle.text.specs.Text.{digits, feed}
+use Rattle.text.specs.Answers.{spelt, answer-bytes}
+use Rattle.text.proofs.AnswerLaws.{length-digits, length-spelt}
+use Rattle.lines.specs.Log.{Log, Turn, turn, answer-line, after-lines, answers}
+use Rattle.lines.proofs.TurnLaws.{turn-action}
 use Rattle.logs.specs.Secrets.{action-of, action-in, machine-of, line-at}
 
 -- ── one line ──
@@ -51,21 +53,25 @@ after-is (l ∷ later) s b =
     ∙ ap (after (action-in later) (length later)) (turned-machine s l b)
     ∙ sym (after-front (action-in (l ∷ later)) (length later) (machine-of s))
 
+-- two answers that carry the same
+pub same-seen : {s t : Seen} → s .number ≡ t .number → s .word ≡ t .word → s ≡ t
+same-seen {s} {t} e f = ap (λ (n : ℕ). record { number = n; word = s .word }) e ∙ ap (λ (w : ℕ). record { number = t .number; word = w }) f
+
 -- the answer line that an action gets
 abbrev pub spelt-of : Outcome → List ℕ
-spelt-of o = spelt (o .number) (o .word)
+spelt-of o = spelt (o .seen)
 
 pub answer-is : (ls : List (List ℕ)) (s : Log) (i : ℕ) → i < length ls → s .booted ≡ true →
     line-at (answers s ls) i ≡ spelt-of (answer (action-in ls) (machine-of s) i)
 unfolding answers answer-bytes after answer
 answer-is [] s i h b = absurd (omega arith)
 answer-is (l ∷ later) s zero h b =
-    take-at (answer-line (turn s l)) (answers (turn s l .log) later) answer-bytes (length-spelt (turn s l .number) (turn s l .word))
+    take-at (answer-line (turn s l)) (answers (turn s l .log) later) answer-bytes (length-spelt (turn s l .seen))
     ∙ ap answer-line (turn-action s l b)
 answer-is (l ∷ later) s (suc i) h b =
     let x = answer-line (turn s l) in
     let y = answers (turn s l .log) later in
-    let k : length x ≡ answer-bytes = length-spelt (turn s l .number) (turn s l .word) in
+    let k : length x ≡ answer-bytes = length-spelt (turn s l .seen) in
     let e : suc i * answer-bytes ≡ length x + i * answer-bytes = omega arith in
     ap (λ (n : ℕ). take answer-bytes (drop n (x ++ y))) e
     ∙ ap (take answer-bytes) (drop-append-add x y (i * answer-bytes))
@@ -74,6 +80,8 @@ answer-is (l ∷ later) s (suc i) h b =
     ∙ ap spelt-of (sym (answer-front (action-in (l ∷ later)) (machine-of s) i))
 
 -- its first two digits are the number
-pub spelt-number : (n w : ℕ) → take 2 (spelt n w) ≡ digits 2 n
+pub spelt-number : (s : Seen) → take 2 (spelt s) ≡ digits 2 (s .number)
 unfolding spelt
-spelt-number n w = ap (take 2) (append-assoc (digits 2 n) (digits 16 w) (feed ∷ [])) ∙ take-at (digits 2 n) _ 2 (length-digits 2 n)
+spelt-number s =
+    let number = digits 2 (s .number) in
+    ap (take 2) (append-assoc number (digits 16 (s .word)) (feed ∷ [])) ∙ take-at number _ 2 (length-digits 2 (s .number))

@@ -14,22 +14,23 @@ use Rattle.numbers.specs.Rules.{least}
 use Rattle.numbers.specs.Frames.{decode}
 use Rattle.numbers.proofs.Bools.{split, or-no, isnt-no}
 use Rattle.numbers.proofs.RulesLaws.{least-applies, above}
+use Rattle.text.specs.Text.{well-shaped, bytes-of, feed, Cut, cut, unended, all-lines, lines}
+use Rattle.text.specs.Answers.{answer-bytes}
+use Rattle.text.specs.Line.{most, kept, held}
+use Rattle.text.specs.declared.line.Line.{Line}
+use Rattle.text.proofs.Cuts.{cut-append}
+use Rattle.text.proofs.LineLaws.{held-kept, held-nothing, take-grown}
 use Rattle.tables.specs.State.{empty}
 use Rattle.tables.specs.Wf.{wf}
 use Rattle.tables.specs.declared.state.Tables.{Tables}
 use Rattle.tables.proofs.WfAgrees.{wf-sound, wf-complete}
 use Rattle.tables.proofs.BootWf.{empty-wf, wf-boot}
-use Rattle.rules.specs.Actions.{does}
-use Rattle.rules.specs.Calls.{op-of, action-rules}
+use Rattle.rules.specs.Calls.{action-rules}
 use Rattle.rules.proofs.Lists.{next-wf}
 use Rattle.rules.proofs.Lowest.{rising-action}
-use Rattle.rules.proofs.Words.{length-touched}
-use Rattle.lines.specs.Text.{well-shaped, bytes-of, feed, Cut, cut, unended, all-lines, lines}
-use Rattle.lines.specs.Log.{Log, Turn, turn, answer-line, answer-bytes, after-lines, answers, start, replay}
-use Rattle.lines.specs.Pieces.{most, kept, held, lines-in, left-open, piece-rules, passed, piece, in-pieces, left-by-pieces}
-use Rattle.lines.specs.declared.line.Line.{Line}
-use Rattle.lines.proofs.Cuts.{cut-append}
-use Rattle.lines.proofs.LineLaws.{held-kept, held-nothing, turn-short, take-grown}
+use Rattle.lines.specs.Log.{Log, Turn, turn, answer-line, after-lines, answers, start, replay}
+use Rattle.lines.specs.Pieces.{lines-in, left-open, piece-rules, passed, piece, in-pieces, left-by-pieces}
+use Rattle.lines.proofs.TurnLaws.{turn-short, turn-long}
 use Rattle.lines.proofs.Walked.{after-append, answers-append}
 
 -- ── lines that differ only past what is kept ──
@@ -147,14 +148,14 @@ Good s = (wf (s .tables) ≡ true) × (length (s .memory) ≡ memory-words)
 
 turn-good : (s : Log) (l : List ℕ) → Good s → Good (turn s l .log)
 unfolding turn
-turn-good s l g = split (well-shaped l)
-    (λ t. split (s .booted)
-    (λ b. let a = decode (bytes-of l) in rw (t, b) (
-      wf-complete _ (next-wf (s .tables) a (wf-sound _ (g .0))),
-      length-touched (does (action-rules (s .tables) a) (s .tables) (op-of a)) (s .memory) ∙ g .1,
-    ))
-    (λ b. rw (t, b) (wf-boot _ _, g .1)))
-    (λ t. rw t g)
+turn-good s l g = (
+  split (well-shaped l)
+      (λ t. split (s .booted)
+      (λ b. rw (t, b) (wf-complete _ (next-wf (s .tables) (decode (bytes-of l)) (wf-sound _ (g .0)))))
+      (λ b. rw (t, b) (wf-boot _ _)))
+      (λ t. rw t (g .0)),
+  turn-long s l ∙ g .1,
+)
 
 pub order-kept : (s : Log) (ls : List (List ℕ)) → wf (s .tables) ≡ true → length (s .memory) ≡ memory-words →
     (wf (after-lines s ls .tables) ≡ true) × (length (after-lines s ls .memory) ≡ memory-words)
@@ -188,7 +189,7 @@ whole input out h =
     ∙ ap (λ (l : List ℕ). passed (all-lines (cut l input)) [] start out) e
 
 -- ── 1 and 2 are a call's own numbers: no line gets them ──
-pub line-number : (s : Log) (l : List ℕ) → (turn s l .number ≡ 0) ⊎ (3 ≤ turn s l .number)
+pub line-number : (s : Log) (l : List ℕ) → (turn s l .seen .number ≡ 0) ⊎ (3 ≤ turn s l .seen .number)
 unfolding turn
 line-number s l = split (well-shaped l)
     (λ t. split (s .booted)

@@ -10,10 +10,11 @@ use Rattle.numbers.specs.Frames.{decode}
 use Rattle.numbers.specs.declared.frames.Action.{Action}
 use Rattle.rules.specs.Calls.{Machine}
 use Rattle.isolation.specs.Demands.{EqualOutside, TwoRuns, AskedBy}
-use Rattle.lines.specs.Text.{cut, lines}
-use Rattle.lines.specs.Log.{Log, answer-bytes, after-lines, answers, start, replay}
+use Rattle.text.specs.Text.{cut, lines}
+use Rattle.text.specs.Answers.{answer-bytes}
+use Rattle.text.specs.Walks.{heard}
+use Rattle.lines.specs.Log.{Log, after-lines, answers, start, replay}
 use Rattle.lines.specs.Pieces.{Passed}
-use Rattle.lines.specs.Walks.{heard}
 
 -- ── a log as a list of actions ──
 -- what a line stands for. A bad one stands for 16 zeros: their kind is none, so they get 3 as it does

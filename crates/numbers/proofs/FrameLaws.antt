@@ -1,20 +1,18 @@
--- Frames: a word's bytes two by two; every action gets exactly one of 0, 3 and 4; the kinds of the table are those of 01's three ranges; and what an
--- action that passes the check is known to be.
+-- Frames: a word's bytes two by two; every action gets exactly one of 0, 3 and 4; the kinds of the table are those of 01's three ranges.
 use mathlib.Core.Path.{_≡_, refl, sym, _∙_, ap}
 use mathlib.Core.Bool.{Bool, true, false, Bool·beq}
 use mathlib.Core.List.{List}
 use Prim.Native.Nat.{ℕ, _+_, _*_, _≤_, _<_}
-use mathlib.Core.Logic.{⊎-elim}
 use native.Mathlib.Omega.{arith}
 use lib.Dec.{eqb, leb}
 use lib.ListN.{getD}
-use borrow.Author.Tests.{leb-true, eqb-true, eqb-false}
+use borrow.Author.Tests.{leb-true}
 use Rattle.numbers.specs.Tests.{_and_, _or_, isnt}
 use Rattle.numbers.specs.Rules.{least}
 use Rattle.numbers.specs.Search.{first, upto}
 use Rattle.numbers.specs.Frames.{big, kinds, row-of, stray, beyond, frame-rules, frame-number}
 use Rattle.numbers.specs.declared.frames.Action.{Action}
-use Rattle.numbers.proofs.Bools.{split, and-l, and-r, or-e, isnt-i}
+use Rattle.numbers.proofs.Bools.{split, not-true, and-l, and-r, or-no, isnt-false}
 use Rattle.numbers.proofs.RulesLaws.{Applies, rising, least-lowest}
 use Rattle.numbers.proofs.SearchLaws.{upto-at}
 
@@ -53,10 +51,10 @@ unfolding frame-number rising _and_
 frame-lowest a n h = least-lowest 3 (frame-rules a) refl h
 
 -- ── the table's rule: a kind has a row exactly when it is one of 01..05, 10..1b, 20..25 ──
-pub within : ℕ → ℕ → ℕ → Bool
+within : ℕ → ℕ → ℕ → Bool
 within from to k = leb from k and leb k to
 
-pub in-ranges : ℕ → Bool
+in-ranges : ℕ → Bool
 in-ranges k = within 0x01 0x05 k or within 0x10 0x1b k or within 0x20 0x25 k
 
 right-row : ℕ → Bool
@@ -69,23 +67,15 @@ beq-eq false true e = e
 beq-eq false false e = refl
 
 -- computed over the whole byte
-pub kind-known : (k : ℕ) → k < 256 → isnt (eqb (row-of k) 0) ≡ in-ranges k
+kind-known : (k : ℕ) → k < 256 → isnt (eqb (row-of k) 0) ≡ in-ranges k
 unfolding right-row upto row-of kinds first in-ranges within _and_ _or_ isnt
 kind-known k h = beq-eq _ _ (upto-at 256 right-row refl k h)
 
--- an action that passes the check is of no other kind
-pub no-other-kind : (a : Action) → a .kind < 256 → frame-number a ≡ 0 →
-    (0x01 ≤ a .kind → a .kind ≤ 0x05 → ⊥) → (0x10 ≤ a .kind → a .kind ≤ 0x1b → ⊥) → (0x20 ≤ a .kind → a .kind ≤ 0x25 → ⊥) → ⊥
-unfolding frame-number least in-ranges within
-no-other-kind a h e x y z = split (eqb (row-of (a .kind)) 0)
-    (λ t. let w : 3 ≡ 0 = rw t at e in omega arith)
-    (λ t. ⊎-elim (λ w. x (leb-true _ _ (and-l _ _ w)) (leb-true _ _ (and-r _ _ w)))
-    (λ v. ⊎-elim (λ w. y (leb-true _ _ (and-l _ _ w)) (leb-true _ _ (and-r _ _ w)))
-    (λ w. z (leb-true _ _ (and-l _ _ w)) (leb-true _ _ (and-r _ _ w))) (or-e _ _ v))
-    (or-e _ _ (sym (kind-known (a .kind) h) ∙ isnt-i t)))
-
--- nor of kind 0
-pub kind-not-0 : (a : Action) → frame-number a ≡ 0 → a .kind ≤ 5 → 1 ≤ a .kind
-kind-not-0 a e l = split (eqb (a .kind) 0)
-    (λ t. let z : a .kind ≡ 0 = eqb-true _ _ t in absurd (no-other-kind a (omega arith) e (λ x y. omega arith) (λ x y. omega arith) (λ x y. omega arith)))
-    (λ t. let z : a .kind ≡ 0 → ⊥ = eqb-false _ _ t in omega arith)
+-- what lies between them has none
+pub no-row : (k : ℕ) → k < 256 →
+    (0x01 ≤ k → k ≤ 0x05 → ⊥) → (0x10 ≤ k → k ≤ 0x1b → ⊥) → (0x20 ≤ k → k ≤ 0x25 → ⊥) → eqb (row-of k) 0 ≡ true
+unfolding in-ranges within
+no-row k h x y z = isnt-false _ (kind-known k h ∙ or-no (gap x) (or-no (gap y) (gap z)))
+  where
+    gap : {from to : ℕ} → (from ≤ k → k ≤ to → ⊥) → (leb from k and leb k to) ≡ false
+    gap {from} {to} f = not-true _ (λ t. f (leb-true from k (and-l _ _ t)) (leb-true k to (and-r _ _ t)))

@@ -1,14 +1,25 @@
 // Tables that no boot and no action comes to.
-use crate::cases;
+use crate::many;
 use crate::show;
-use actions::machine::Machine;
-use actions::machine::Out;
+use calls::referee::Referee;
+use edits::out::Out;
+use holdings::Holdings;
 use numbers::entries;
 use tables::state::Tables;
 
+// Hypervisor pages 0..15, region 63, guests 1 and 2 present.
+fn start() -> Tables {
+    let mut t = Tables::boot(0xffff, 0x8000000000000000);
+    let mut present = t.present;
+    present[1] = true;
+    present[2] = true;
+    t.present = present;
+    t
+}
+
 // Guest 1 holds page 5 for CPU.
 fn held() -> Tables {
-    let mut t = cases::start();
+    let mut t = start();
     let mut holder = t.holder;
     holder[5] = Tables::GUEST + 1;
     t.holder = holder;
@@ -46,7 +57,7 @@ pub fn reversed_pair(mem: &mut [u64; show::WORDS]) {
 
 fn by_itself(out: Out, t: Tables) {
     show::text(b"by itself");
-    show::answer(out.number, out.word);
+    show::answer(out.seen);
     show::changes(t, out.tables);
     show::text(b"\n");
 }
@@ -54,18 +65,43 @@ fn by_itself(out: Out, t: Tables) {
 // Not well formed: a call refuses such tables with 2, and an action by itself still has its number.
 pub fn cached_alone(mem: &mut [u64; show::WORDS]) {
     show::text(b"an entry stands in a TLB alone: reclaim its page, remove its guest\n");
-    let mut t = cases::start();
+    let mut t = start();
     let mut tlb = t.tlb;
     tlb[31] = entries::entry(2, 2, 2, 5, 1);
     t.tlb = tlb;
     let frames = [0x1102000000000000u64]; // RemoveVm
     show::acts(t, &frames, mem);
-    let m = Machine { tables: t };
+    let m = Holdings { tables: t };
     by_itself(m.remove_vm(2), t);
     let mut h = held();
     h.tlb = tlb;
     let reclaim = [0x1301000000000005u64]; // ReclaimPage
     show::acts(h, &reclaim, mem);
-    let n = Machine { tables: h };
+    let n = Holdings { tables: h };
     by_itself(n.reclaim_page(1, 5), h);
+}
+
+fn act(t: Tables, bytes: &[u8], mem: &mut [u64]) {
+    let referee = Referee { tables: t };
+    by_itself(referee.act(bytes, mem), t);
+}
+
+// AddVm 3, of so many bytes, in front of so many words.
+fn add_3(bytes: usize, memory: usize) {
+    let mut mem = [0u64; show::WORDS];
+    let mut frame = [0u8; 16];
+    show::put(&mut frame, 0, 0x1003000000000000);
+    act(
+        start(),
+        many::bytes_of(&frame, bytes),
+        many::words_of(&mut mem, memory),
+    );
+}
+
+// The call's own 1: a byte too few, a word of memory too few. Nothing is changed.
+pub fn too_short() {
+    show::text(b"AddVm 3 in 15 bytes, in front of a word of memory less, and right\n");
+    add_3(15, show::WORDS);
+    add_3(16, show::WORDS - 1);
+    add_3(16, show::WORDS);
 }

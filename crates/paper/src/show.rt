@@ -1,7 +1,8 @@
 // Frames handed to a call, and what came of each, in one line. A frame is given by its first eight bytes, kind to page, as one number;
 // the word of a Write is always the same.
-use actions::cells;
+use access::cells;
 use calls::referee::Referee;
+use numbers::answers::Seen;
 use numbers::frames;
 use tables::state;
 use tables::state::Tables;
@@ -51,11 +52,11 @@ pub fn decimal(n: u64) {
     io::print_decimal(OUT, n);
 }
 
-pub fn answer(number: u8, word: u64) {
+pub fn answer(seen: Seen) {
     text(b" ");
-    hex(number as u64, 2);
+    hex(seen.number as u64, 2);
     text(b" ");
-    hex(word, 16);
+    hex(seen.word, 16);
 }
 
 fn change(name: &[u8], at: usize, old: u64, new: u64) {
@@ -110,18 +111,6 @@ fn flags_changed<'a>(name: &[u8], old: &'a [bool], new: &'a [bool]) {
     }
 }
 
-fn words_changed<'a>(old: &'a [u64], new: &'a [u64]) {
-    let mut i: usize = 0;
-    while i < old.len() {
-        let a = cells::load(old, i);
-        let b = cells::load(new, i);
-        if a != b {
-            change(b"memory", i, a, b);
-        }
-        i += 1;
-    }
-}
-
 pub fn changes(old: Tables, new: Tables) {
     entries_changed(b"map", &old.map, &new.map);
     entries_changed(b"tlb", &old.tlb, &new.tlb);
@@ -135,29 +124,17 @@ pub fn changes(old: Tables, new: Tables) {
     bytes_changed(b"running", &old.running, &new.running);
 }
 
-fn copied(mem: &[u64]) -> [u64; WORDS] {
-    let mut copy = [0u64; WORDS];
-    let mut i: usize = 0;
-    while i < WORDS {
-        copy[i] = cells::load(mem, i);
-        i += 1;
-    }
-    copy
-}
-
 // One frame by itself in front of the tables.
 fn act(t: Tables, head: u64, mem: &mut [u64; WORDS]) -> Tables {
     let mut bytes = [0u8; 16];
     put(&mut bytes, 0, head);
-    let before = copied(mem);
     let referee = Referee { tables: t };
     let out = referee.act(&bytes, mem);
     let next = out.tables;
     hex(head, 16);
     hex(word_of(head), 16);
-    answer(out.number, out.word);
+    answer(out.seen);
     changes(t, next);
-    words_changed(&before, mem);
     text(b"\n");
     next
 }

@@ -29,7 +29,7 @@ use Rattle.rules.proofs.Accesses.{access-keyed, entries-alike, nothing-
 use Rattle.rules.proofs.Guards.{reads-when, writes-when}
 
 when-accepted : (m : Tables) (o : Op) (ws : List ℕ) → accepted (refusals m o) ≡ true →
-    acted m o ws ≡ record { number = 0; word = handed-back (touch m o) ws; tables = effect m o; memory = touched (touch m o) ws }
+    acted m o ws ≡ record { seen = record { number = 0; word = handed-back (touch m o) ws }; tables = effect m o; memory = touched (touch m o) ws }
 unfolding next does
 when-accepted m o ws q = rw (q, eqb-true (least (refusals m o)) 0 q)
 
@@ -66,13 +66,13 @@ module _ {m : Tables} (h : Wf m) (ws : List ℕ) (lw : length ws ≡ memory-word
 
   -- what it then does
   pub device-reads : accepted (refusals m (Read Iommu g u a)) ≡ true →
-      acted m (Read Iommu g u a) ws ≡ record { number = 0; word = getD ws device-word 0; tables = m; memory = ws }
+      acted m (Read Iommu g u a) ws ≡ record { seen = record { number = 0; word = getD ws device-word 0 }; tables = m; memory = ws }
   device-reads q =
       let c = accepted-clear m (Read Iommu g u a) q in
-      when-accepted m (Read Iommu g u a) ws q ∙ ap (λ (n : ℕ). record { number = 0; word = getD ws n 0; tables = m; memory = ws }) (lands (c 4) (c 9))
+      when-accepted m (Read Iommu g u a) ws q ∙ ap (λ (n : ℕ). record { seen = record { number = 0; word = getD ws n 0 }; tables = m; memory = ws }) (lands (c 4) (c 9))
 
   pub device-writes : (w : ℕ) → accepted (refusals m (Write Iommu g u a w)) ≡ true →
-      acted m (Write Iommu g u a w) ws ≡ record { number = 0; word = 0; tables = m; memory = set ws device-word w }
+      acted m (Write Iommu g u a w) ws ≡ record { seen = record { number = 0; word = 0 }; tables = m; memory = set ws device-word w }
   device-writes w q =
       let c = accepted-clear m (Write Iommu g u a w) q in
-      when-accepted m (Write Iommu g u a w) ws q ∙ ap (λ (n : ℕ). record { number = 0; word = 0; tables = m; memory = set ws n w }) (lands (c 4) (c 9))
+      when-accepted m (Write Iommu g u a w) ws q ∙ ap (λ (n : ℕ). record { seen = record { number = 0; word = 0 }; tables = m; memory = set ws n w }) (lands (c 4) (c 9))

@@ -64,7 +64,7 @@ words-stay m g p ws = split (accepted (refusals m (ReclaimPage g p))) (λ e. rw 
 
 -- ── a page given again to the devices of the guest that has it: accepted, and nothing changes ──
 pub repeated-assign : (m : Tables) → Wf m → (g p : ℕ) (ws : List ℕ) → dma-holds m g p ≡ true →
-    acted m (IommuAssignPage g p) ws ≡ record { number = 0; word = 0; tables = m; memory = ws }
+    acted m (IommuAssignPage g p) ws ≡ record { seen = record { number = 0; word = 0 }; tables = m; memory = ws }
 unfolding does next least
 repeated-assign m h g p ws e =
     let held : dma-of m p ≡ guest g = eqb-true _ _ e in
@@ -83,14 +83,14 @@ repeated-assign m h g p ws e =
 -- an end that maps the page without holding it: no other pair of that guest on that page excuses it
 pub no-second-pair-excuses : (m : Tables) (l r p : ℕ) (ws : List ℕ) →
     (off l guests or off r guests or off p pages) ≡ false → eqb l r ≡ false → (absent m l or absent m r) ≡ false →
-    has W (shared-by l r p) (m .pairs) ≡ true → (leans m l p or leans m r p) ≡ true → acted m (UnsharePage l r p) ws .number ≡ 13
+    has W (shared-by l r p) (m .pairs) ≡ true → (leans m l p or leans m r p) ≡ true → acted m (UnsharePage l r p) ws .seen .number ≡ 13
 unfolding least
 no-second-pair-excuses m l r p ws e₄ e₅ e₆ pair leans = rw (e₄, e₅, e₆, and-i pair leans)
 
 -- a pair that stands, in either order, is accepted again, however full the table, and nothing changes
 pub standing-pair-kept : (m : Tables) (l r p : ℕ) (ws : List ℕ) →
     (off l guests or off r guests or off p pages) ≡ false → eqb l r ≡ false → (absent m l or absent m r) ≡ false → holds m l p ≡ true →
-    has W (shared-by l r p) (m .pairs) ≡ true → acted m (SharePage l r p) ws ≡ record { number = 0; word = 0; tables = m; memory = ws }
+    has W (shared-by l r p) (m .pairs) ≡ true → acted m (SharePage l r p) ws ≡ record { seen = record { number = 0; word = 0 }; tables = m; memory = ws }
 unfolding least next does
 standing-pair-kept m l r p ws e₄ e₅ e₆ mine pair = rw (e₄, e₅, e₆, isnt-no mine, and-no-l (full W (m .pairs)) (isnt-no pair), pair)
 

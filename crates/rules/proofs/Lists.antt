@@ -70,7 +70,7 @@ act-good m frame ws t =
     )
 
 -- and leaves good order behind
-pub act-wf : (m : Tables) (frame ws : List ℕ) → act m frame ws .number ≡ 0 → Wf (act m frame ws .tables)
+pub act-wf : (m : Tables) (frame ws : List ℕ) → act m frame ws .seen .number ≡ 0 → Wf (act m frame ws .tables)
 unfolding act next
 act-wf m frame ws e =
     let t : accepted (act-rules m frame ws) ≡ true = eq-eqb _ _ e in
@@ -85,12 +85,12 @@ blind f zero m ws vs = refl
 blind f (suc n) m ws vs = ap (λ (t : Tables). next (action-rules t (f n)) t (op-of (f n))) (blind f n m ws vs)
 
 pub blind-number : (f : ℕ → Action) (i : ℕ) (m : Tables) (ws vs : List ℕ) →
-    answer f (record { tables = m; memory = ws }) i .number ≡ answer f (record { tables = m; memory = vs }) i .number
+    answer f (record { tables = m; memory = ws }) i .seen .number ≡ answer f (record { tables = m; memory = vs }) i .seen .number
 unfolding answer
 blind-number f i m ws vs = ap (λ (t : Tables). least (action-rules t (f i))) (blind f i m ws vs)
 
 -- a call looks at memory only for its length
 pub blind-act : (m : Tables) (frame ws vs : List ℕ) → length ws ≡ length vs →
-    (act m frame ws .number ≡ act m frame vs .number) × (act m frame ws .tables ≡ act m frame vs .tables)
+    (act m frame ws .seen .number ≡ act m frame vs .seen .number) × (act m frame ws .tables ≡ act m frame vs .tables)
 unfolding act
 blind-act m frame ws vs e = (rw e, rw e)

@@ -93,12 +93,12 @@ lowest-run odd n s numbers words = rising-lowest 1 _ (rising-run odd n s numbers
 
 -- ── a refused action changes nothing, whatever refused it ──
 pub record Unchanged (m : Tables) (ws : List ℕ) (r : Outcome) : Type 0 where
-  pub word : r .word ≡ 0
+  pub word : r .seen .word ≡ 0
   pub tables : r .tables ≡ m
   pub memory : r .memory ≡ ws
 
 pub refused-changes-nothing : (rules : Rules) (m : Tables) (o : Op) (ws : List ℕ) →
-    (outcome rules m o ws .number ≡ 0 → ⊥) → Unchanged m ws (outcome rules m o ws)
+    (outcome rules m o ws .seen .number ≡ 0 → ⊥) → Unchanged m ws (outcome rules m o ws)
 unfolding next does
 refused-changes-nothing rules m o ws n = rw (ne-eqb (least rules) 0 n) (record { word = refl; tables = refl; memory = refl })
 

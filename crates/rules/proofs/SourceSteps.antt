@@ -88,7 +88,7 @@ module _ {m : Tables} (h : Wf m) (ws : List ℕ) (lw : length ws ≡ memory-word
 
   -- ── what a read hands back is what the source lets the guest observe ──
   pub read-word : (g u a : ℕ) → accepted (refusals m (asked (Vm g (Read u a)))) ≡ true →
-      read-observation (view m ws) u g a ≡ some (acted m (asked (Vm g (Read u a))) ws .word)
+      read-observation (view m ws) u g a ≡ some (acted m (asked (Vm g (Read u a))) ws .seen .word)
   unfolding does
   read-word g u a q =
       let c = accepted-clear m (asked (Vm g (Read u a))) q in

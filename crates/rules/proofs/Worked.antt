@@ -46,14 +46,14 @@ memory = replicate memory-words 0
 
 -- the action, of these tables, gets this number
 gets : Tables → Op → ℕ → Bool
-gets m o n = eqb (acted m o memory .number) n
+gets m o n = eqb (acted m o memory .seen .number) n
 
 -- a frame of a kind, with a guest, a second number, an address and a page
 frame : ℕ → ℕ → ℕ → ℕ → ℕ → List ℕ
 frame k g s a p = k ∷ g ∷ s ∷ 0 ∷ 0 ∷ a ∷ 0 ∷ p ∷ replicate 8 0
 
 calls : Tables → List ℕ → List ℕ → ℕ → Bool
-calls m bytes ws n = eqb (act m bytes ws .number) n
+calls m bytes ws n = eqb (act m bytes ws .seen .number) n
 
 -- hypervisor pages 0 .. 15, region page 63, guests 1 and 2; then guest 1 has page 5, which it maps at guest page 2 and may only read
 two : Tables

@@ -20,6 +20,7 @@ use Rattle.numbers.specs.Search.{first}
 use Rattle.numbers.specs.Addresses.{page-of, offset-of, word-of}
 use Rattle.numbers.specs.Entries.{key-of, entry, at-unit, page-in, pair}
 use Rattle.numbers.specs.Frames.{off}
+use Rattle.numbers.specs.declared.answers.Seen.{Seen}
 use Rattle.tables.specs.Table.{find, has, no-room, place, put, wipe}
 use Rattle.tables.specs.Wants.{W, has-key, of-guest, maps, ends-at, shared-by, invalidated}
 use Rattle.tables.specs.State.{nobody, hypervisor, guest, a-guest, is-present, in-region, holder-of, dma-of, running-on, by-side, map-of, tlb-of, may-reach, lookup, nothing, can-read, can-write, page-is-quiescent, iommu-page-is-quiescent}
@@ -83,6 +84,14 @@ named h t = ltb (first (eqb h) t) (length t)
 unfoldable pub leans : Tables → ℕ → ℕ → Bool
 leans m g p = has W (maps g p) (m .map) and isnt (holds m g p)
 
+-- 13: the guest holds a page, has an entry in a map or TLB, is in a pair or runs on a CPU
+abbrev pub in-use : Tables → ℕ → Bool
+in-use m g =
+    named (guest g) (m .holder) or named (guest g) (m .dma)
+    or has W (of-guest g) (m .map) or has W (of-guest g) (m .«io_map»)
+    or has W (of-guest g) (m .tlb) or has W (of-guest g) (m .«io_tlb»)
+    or has W (ends-at g) (m .pairs) or named (guest g) (m .running)
+
 -- ══ refusals: the first whose condition holds is the answer ══
 abbrev pub refusals : Tables → Op → Rules
 -- 01 Read, 04 DmaRead
@@ -116,10 +125,7 @@ refusals m (AddVm g) =
 refusals m (RemoveVm g) =
     off g guests ⇒ 4 ∣
     absent m g ⇒ 6 ∣
-    named (guest g) (m .holder) or named (guest g) (m .dma)
-    or has W (of-guest g) (m .map) or has W (of-guest g) (m .«io_map»)
-    or has W (of-guest g) (m .tlb) or has W (of-guest g) (m .«io_tlb»)
-    or has W (ends-at g) (m .pairs) or named (guest g) (m .running) ⇒ 13 ∣
+    in-use m g ⇒ 13 ∣
     accept
 -- 12 AssignPage
 refusals m (AssignPage g p) =
@@ -288,15 +294,13 @@ unfoldable pub does : Rules → Tables → Op → Touch
 does rules m o = cond (accepted rules) (touch m o) Keeps
 
 pub record Outcome : Type 0 where
-  pub number : ℕ
-  pub word : ℕ
+  pub seen : Seen
   pub tables : Tables
   pub memory : List ℕ
 
 abbrev pub outcome : Rules → Tables → Op → List ℕ → Outcome
 outcome rules m o ws = record {
-  number = least rules;
-  word = handed-back (does rules m o) ws;
+  seen = record { number = least rules; word = handed-back (does rules m o) ws };
   tables = next rules m o;
   memory = touched (does rules m o) ws;
 }

@@ -103,7 +103,7 @@ answer f s i = taken (after f i s .tables) (f i) (after f i s .memory)
 -- how many of the first n were accepted
 unfoldable pub accepted-of : (ℕ → Action) → Machine → ℕ → ℕ
 accepted-of f s zero = 0
-accepted-of f s (suc n) = accepted-of f s n + cond (eqb (answer f s n .number) 0) 1 0
+accepted-of f s (suc n) = accepted-of f s n + cond (eqb (answer f s n .seen .number) 0) 1 0
 
 -- places with the first n written
 unfoldable pub written : {A : Type 0} → (ℕ → A) → ℕ → List A → List A
@@ -141,8 +141,8 @@ ran f n s numbers words = record {
   accepted = accepted-of f s n;
   tables = after f n s .tables;
   memory = after f n s .memory;
-  numbers = written (λ i. answer f s i .number) n numbers;
-  words = written (λ i. answer f s i .word) n words;
+  numbers = written (λ i. answer f s i .seen .number) n numbers;
+  words = written (λ i. answer f s i .seen .word) n words;
 }
 
 -- 1: memory, the list itself, or fewer answer places than actions; 2: tables not well formed

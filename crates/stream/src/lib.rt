@@ -3,9 +3,9 @@ ghost use mathlib.Core.Path.{_≡_};
 ghost use lib.ListN.{length};
 ghost use Rattle.io.specs.Counts.{Counts};
 use calls::referee::Referee;
-use lines::answers;
 use lines::replay::Fed;
 use lines::replay::Replay;
+use text::answers;
 
 // How many bytes are read at a time, and room for the answers if each of them ends a line.
 const BYTES: usize = 65536;

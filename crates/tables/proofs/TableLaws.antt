@@ -1,17 +1,21 @@
 -- The laws of the bounded table, over any row type and any test of a key.
 use mathlib.Core.Path.{_≡_, refl, sym, _∙_, ap, subst}
 use mathlib.Core.Bool.{Bool, true, false}
-use mathlib.Core.List.{List, [], _∷_, map}
+use mathlib.Core.List.{List, [], _∷_, map, append-nil}
 use mathlib.Core.Logic.{_↔_}
-use Prim.Native.Nat.{ℕ, zero, suc, _≤_, _<_}
+use Prim.Native.Nat.{ℕ, zero, suc, _+_, _≤_, _<_}
+use native.Mathlib.Numerals.{add-one}
 use native.Mathlib.Omega.{arith}
-use lib.Dec.{ltb, leb·suc-suc}
-use lib.ListN.{length, getD, set, length-set, length-map, List·getD-eq-default, List·getD-map}
+use lib.Dec.{ltb, leb, leb·suc-suc}
+use lib.ListN.{length, getD, set, length-set, length-map, List·getD-eq-default, List·getD-map, drop-of-length-le}
+use lib.Seq.{take-all}
 use borrow.Author.Tests.{lt-ltb, ltb-true, ltb-false, leb-false, lt-leb}
 use Rattle.numbers.specs.Search.{first}
+use Rattle.numbers.specs.Tests.{_and_, isnt}
 use Rattle.numbers.proofs.Bools.{split, clash, not-true, not-false, bool-ext, and-l, and-r, and-i, and-no-l, and-no-r, isnt-true, isnt-i, isnt-no, implies, implied}
 use Rattle.numbers.proofs.SearchLaws.{first-hit, first-skip, first-passes, first-lowest}
 use Rattle.tables.specs.Table.{Shape, all, live, hit, find, has, full, no-room, place, seat, put, cleared, wipe, Each, each, Uniq, uniq}
+use Rattle.tables.specs.Steps.{wipe-from}
 
 -- To stand under one key is an equivalence.
 pub record Same {A : Type 0} (s : A → A → Bool) : Type 0 where
@@ -44,6 +48,10 @@ module _ {A : Type 0} (K : Shape A) where
   pub has-skip : (k : A → Bool) (x : A) (t : List A) → hit K k x ≡ false → has K k (x ∷ t) ≡ has K k t
   unfolding has
   has-skip k x t e = rw (first-skip (hit K k) x t e) (leb·suc-suc (suc (first (hit K k) t)) (length t))
+
+  has-lt : (k : A → Bool) (t : List A) → has K k t ≡ true → first (hit K k) t < length t
+  unfolding has
+  has-lt k t h = ltb-true _ _ h
 
   free-skip : (k : A → Bool) {x : A} → K .free x ≡ true → hit K k x ≡ false
   free-skip k e = and-no-l _ (isnt-no e)
@@ -196,6 +204,44 @@ module _ {A : Type 0} (K : Shape A) where
       (λ o. has-hit k x (set t i r) o)
       (λ o. has-skip k x (set t i r) o ∙ has-set-free k r t i e (sym (has-skip k x t o) ∙ h))
 
+  -- ── where a row goes, and whether there is room for it ──
+  seat-hit : (k : A → Bool) (t : List A) → has K k t ≡ true → seat K k t ≡ first (hit K k) t
+  unfolding seat
+  seat-hit k t h = rw h
+
+  seat-free : (k : A → Bool) (t : List A) → has K k t ≡ false → seat K k t ≡ first (K .free) t
+  unfolding seat
+  seat-free k t h = rw h
+
+  pub no-room-seat : (k : A → Bool) (t : List A) → no-room K k t ≡ leb (length t) (seat K k t)
+  unfolding full _and_ isnt
+  no-room-seat k t = split (has K k t)
+      (λ h. rw (h, seat-hit k t h) (sym (lt-leb _ _ (has-lt k t h))))
+      (λ h. rw (h, seat-free k t h))
+
+  -- ── rows removed from a place on ──
+  pub wipe-from-first : (k : A → Bool) (t : List A) → wipe-from K k (first (hit K k) t) t ≡ wipe K k t
+  unfolding wipe-from wipe first
+  wipe-from-first k [] = refl
+  wipe-from-first k (x ∷ t) = split (hit K k x)
+      (λ e. rw (first-hit (hit K k) x t e))
+      (λ e. rw e (ap {B = List A} (λ r. x ∷ r) (wipe-from-first k t)))
+
+  -- what a loop that frees from the front has left to do
+  wipe-next : (k : A → Bool) (t : List A) (i : ℕ) (d : A) → i < length t → wipe-from K k (suc i) (set t i (cleared K k (getD t i d))) ≡ wipe-from K k i t
+  unfolding wipe-from wipe
+  wipe-next k [] i d h = absurd (omega arith)
+  wipe-next k (x ∷ t) zero d h = refl
+  wipe-next k (x ∷ t) (suc i) d h = ap {B = List A} (λ r. x ∷ r) (wipe-next k t i d (omega arith))
+
+  pub wipe-from-more : (k : A → Bool) (t : List A) (i : ℕ) (d v : A) → i < length t → v ≡ cleared K k (getD t i d) →
+      wipe-from K k (i + 1) (set t i v) ≡ wipe-from K k i t
+  wipe-from-more k t i d v h e = rw (add-one, e) (wipe-next k t i d h)
+
+  pub wipe-from-end : (k : A → Bool) (t : List A) (i : ℕ) → length t ≤ i → wipe-from K k i t ≡ t
+  unfolding wipe-from wipe
+  wipe-from-end k t i h = rw (take-all i t h, drop-of-length-le t h) (append-nil t)
+
   module _ (dead : K .free (K .zero) ≡ true) where
     -- a lookup finds a live row exactly where there is one
     pub live-find : (k : A → Bool) (t : List A) → live K (find K k t) ≡ has K k t
@@ -230,14 +276,6 @@ module _ {A : Type 0} (K : Shape A) where
     has-place k r t h = has-set-free k r t _ (free-first t) h
 
     -- ── a row put under its key ──
-    seat-hit : (k : A → Bool) (t : List A) → has K k t ≡ true → seat K k t ≡ first (hit K k) t
-    unfolding seat
-    seat-hit k t h = rw h
-
-    seat-free : (k : A → Bool) (t : List A) → has K k t ≡ false → seat K k t ≡ first (K .free) t
-    unfolding seat
-    seat-free k t h = rw h
-
     -- an overwritten row stays where it was, a new one takes the lowest free place
     pub put-over : (k : A → Bool) (r : A) (t : List A) → has K k t ≡ true → put K k r t ≡ set t (first (hit K k) t) r
     unfolding put

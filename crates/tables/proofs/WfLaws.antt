@@ -6,34 +6,14 @@ use mathlib.Core.List.{List}
 use Prim.Native.Nat.{ℕ, _-_, _<_, _≤_}
 use native.Mathlib.Omega.{arith}
 use lib.Dec.{eqb, leb}
-use lib.ListN.{getD, length, List·getD-eq-default}
+use lib.ListN.{getD}
 use borrow.Author.Tests.{ne-eqb, eq-eqb, eqb-true, eqb-false, ltb-true, lt-ltb, leb-true, leb-false, le-leb}
-use Rattle.numbers.specs.Search.{first}
-use Rattle.numbers.specs.Entries.{key-in, at-unit}
 use Rattle.numbers.specs.Tests.{_and_, _or_}
 use Rattle.numbers.proofs.Bools.{split, clash, not-true, and-l, and-r, and-i, or-e, or-il, or-ir, isnt-true, isnt-i}
-use Rattle.numbers.proofs.EntryLaws.{key-at-unit, at-unit-live}
-use Rattle.tables.specs.Table.{hit}
-use Rattle.tables.specs.Wants.{W, meets}
-use Rattle.tables.specs.Wf.{Sized, EntryWf, MapRowWf, PairWf, PageWf, CpuWf, vm-ok, page-ok, entry-ok, map-row-ok, pair-ok, cached, sized, in-order, wf}
+use Rattle.tables.specs.Wf.{Sized, EntryWf, MapRowWf, PairWf, PageWf, CpuWf, vm-ok, page-ok, entry-ok, map-row-ok, pair-ok, sized, in-order, wf}
 use Rattle.tables.specs.State.{nobody, hypervisor, guest, a-guest, guest-of, held-on, may-reach}
 use Rattle.tables.specs.declared.state.Tables.{Tables}
 use Rattle.tables.specs.declared.state.Side.{Side}
-use Rattle.tables.specs.declared.search.Want.the-variants.{Key}
-use Rattle.tables.proofs.TableLaws.{find-at}
-
--- ── a TLB entry against the row that a search for its key ends at ──
-module _ (map : List ℕ) (y home key j : ℕ) (h : home ≡ at-unit 0 y) (k : key ≡ key-in home) (f : first (hit W (meets (Key key))) map ≡ j) where
-  pub cached-at : cached map y ≡ eqb (getD map j 0) home
-  unfolding cached
-  cached-at = rw (← key-at-unit 0 y, ← h, ← k, find-at W (meets (Key key)) map j f)
-
-  -- the search found nothing
-  pub cached-past : length map ≤ j → cached map y ≡ false
-  cached-past p = cached-at ∙ ne-eqb _ _ (λ (e : getD map j 0 ≡ home).
-      let z : getD map j 0 ≡ 0 = List·getD-eq-default map 0 p in
-      let l : 0 < at-unit 0 y = at-unit-live 0 y in
-      omega arith)
 
 -- ── sizes ──
 pub sized-agrees : (m : Tables) → sized m ≡ true ↔ Sized m

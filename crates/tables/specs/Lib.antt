@@ -1,4 +1,5 @@
 pub mod Table
+pub mod Steps
 pub mod Wants
 pub mod State
 pub mod Wf

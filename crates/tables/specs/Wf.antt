@@ -11,17 +11,13 @@ use lib.ListN.{getD, length}
 use Rattle.numbers.specs.Sizes.{guests, units, pages, gpages, accesses, map-room, tlb-room, pair-room}
 use Rattle.numbers.specs.Tests.{_and_, _or_, isnt}
 use Rattle.numbers.specs.Search.{upto}
-use Rattle.numbers.specs.Entries.{key-of, access-in, page-in, key-in, gpage-in, guest-in, unit-in, tag-in, at-unit, left-in, right-in, pair-tag-in}
+use Rattle.numbers.specs.Entries.{key-of, access-in, page-in, gpage-in, guest-in, unit-in, tag-in, at-unit, left-in, right-in, pair-tag-in}
 use Rattle.tables.specs.Table.{find, Each, each, Uniq, uniq}
 use Rattle.tables.specs.Wants.{W, has-key, same-entry, same-pair}
 use Rattle.tables.specs.State.{nobody, hypervisor, guest, a-guest, guest-of, in-region, holder-of, dma-of, running-on, map-of, tlb-of, reach, may-reach}
-use Rattle.tables.specs.declared.search.Want.{Want}
-use Rattle.tables.specs.declared.search.Want.the-variants.{Key, Pair}
 use Rattle.tables.specs.declared.state.Tables.{Tables}
 use Rattle.tables.specs.declared.state.Side.{Side}
 use Rattle.tables.specs.declared.state.Side.the-variants.{Cpu, Iommu}
-use Rattle.tables.specs.declared.wf.Rows.{Rows}
-use Rattle.tables.specs.declared.wf.Rows.the-variants.{Map, Tlb, Pairs}
 
 -- ══ the clauses ══
 -- an entry whose numbers are in range
@@ -139,17 +135,6 @@ pair-ok present q =
     and isnt (eqb (left-in q) (right-in q))
     and getD present (left-in q) false
     and getD present (right-in q) false
-
--- a row of a table, and what stands under the same key
-abbrev pub row-ok : Rows → List Bool → List ℕ → List ℕ → List Bool → ℕ → Bool
-row-ok (Map d) present held pairs region x = map-row-ok d present held pairs region x
-row-ok Tlb present held pairs region y = entry-ok y
-row-ok Pairs present held pairs region q = pair-ok present q
-
-abbrev pub same-as : Rows → ℕ → Want
-same-as (Map d) w = Key (key-in w)
-same-as Tlb w = Key (key-in w)
-same-as Pairs q = Pair (left-in q) (right-in q) (page-in q)
 
 unfoldable pub cached : List ℕ → ℕ → Bool
 cached map y = eqb (home-of map y) (at-unit 0 y)

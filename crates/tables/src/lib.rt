@@ -1,4 +1,3 @@
-// The tables by value, one search over a lent table of any length, lookup, quiescence, and good order as a yes or no.
+// The tables by value, one search over a lent table of any length, lookup, and quiescence.
 pub mod search;
 pub mod state;
-pub mod wf;

@@ -2,7 +2,8 @@
 ghost use mathlib.Core.Path.{_≡_};
 ghost use lib.ListN.{set};
 ghost use Rattle.numbers.specs.Search.{first};
-ghost use Rattle.tables.specs.Table.{hit, find, has, full, no-room, place, seat, put, cleared, wipe};
+ghost use Rattle.tables.specs.Steps.{wipe-from};
+ghost use Rattle.tables.specs.Table.{hit, find, has, seat, cleared};
 ghost use Rattle.tables.specs.Wants.{W, has-key, ends-at, joins, meets, invalidated};
 use numbers::entries;
 
@@ -115,22 +116,9 @@ pub fn has(rows: &[u32], want: Want) -> bool
     first(rows, want) < rows.len()
 }
 
-// Every place is live.
-pub fn full(rows: &[u32]) -> bool
-    ensures { λ r. ⌜ r ≡ full W (now (rows .entry)) ⌝ }
-{
-    rows.len() <= free(rows)
-}
-
-// 15: what is looked for is absent and every place is live.
-pub fn no_room(rows: &[u32], want: Want) -> bool
-    ensures { λ r. ⌜ r ≡ no-room W (meets want) (now (rows .entry)) ⌝ }
-{
-    !has(rows, want) & full(rows)
-}
-
 // ── changes ──
-fn set_row(rows: &mut [u32], at: usize, word: u32)
+// Past the end nothing is stored.
+pub fn set_row(rows: &mut [u32], at: usize, word: u32)
     ensures { λ r. ⌜ now (rows .exit) ≡ set (now (rows .entry)) at word ⌝ }
 {
     if at < rows.len() {
@@ -138,28 +126,12 @@ fn set_row(rows: &mut [u32], at: usize, word: u32)
     }
 }
 
-// A new row, at the lowest free place.
-pub fn place(rows: &mut [u32], word: u32)
-    ensures { λ r. ⌜ now (rows .exit) ≡ place W word (now (rows .entry)) ⌝ }
-{
-    let at = free(rows);
-    set_row(rows, at, word);
-}
-
 // Where a row goes: over the one that is looked for, else to the lowest free place.
-fn seat(rows: &[u32], want: Want) -> usize
+pub fn seat(rows: &[u32], want: Want) -> usize
     ensures { λ r. ⌜ r ≡ seat W (meets want) (now (rows .entry)) ⌝ }
 {
     let at = first(rows, want);
     if at < rows.len() { at } else { free(rows) }
-}
-
-// Over the row that is looked for, else at the lowest free place.
-pub fn put(rows: &mut [u32], want: Want, word: u32)
-    ensures { λ r. ⌜ now (rows .exit) ≡ put W (meets want) word (now (rows .entry)) ⌝ }
-{
-    let at = seat(rows, want);
-    set_row(rows, at, word);
 }
 
 fn cleared(word: u32, want: Want) -> u32
@@ -168,11 +140,11 @@ fn cleared(word: u32, want: Want) -> u32
     if hits(word, want) { 0 } else { word }
 }
 
-// Every row that is looked for is freed.
-pub fn wipe(rows: &mut [u32], want: Want)
-    ensures { λ r. ⌜ now (rows .exit) ≡ wipe W (meets want) (now (rows .entry)) ⌝ }
+// Every row from place `from` on that is looked for is freed.
+pub fn wipe_from(rows: &mut [u32], from: usize, want: Want)
+    ensures { λ r. ⌜ now (rows .exit) ≡ wipe-from W (meets want) from (now (rows .entry)) ⌝ }
 {
-    let mut i: usize = 0;
+    let mut i = from;
     while i < rows.len() {
         rows[i] = cleared(rows[i], want);
         i += 1;
@@ -183,5 +155,5 @@ pub fn wipe(rows: &mut [u32], want: Want)
 pub fn invalidate(tlb: &mut [u32], guest: u8, gpage: u16)
     ensures { λ r. ⌜ now (tlb .exit) ≡ invalidated guest gpage (now (tlb .entry)) ⌝ }
 {
-    wipe(tlb, Want::Everywhere(guest, gpage));
+    wipe_from(tlb, 0, Want::Everywhere(guest, gpage));
 }

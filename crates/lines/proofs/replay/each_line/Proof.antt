@@ -4,10 +4,13 @@ use mathlib.Core.List.{_++_}
 use mathlib.Core.Logic.{⊎-elim}
 use Prim.Native.Nat.{_+_, _-_}
 use lib.ListN.{length, take, drop}
-use Rattle.lines.specs.Log.{answer-bytes}
-use Rattle.lines.specs.Pieces.{held}
+use Rattle.text.specs.Answers.{answer-bytes}
+use Rattle.text.specs.Line.{held}
 use Rattle.lines.specs.Walks.{way, stepped}
-use Rattle.lines.proofs.Along.{step-moved, step-lent, Along, Found, found-line, along-start, along-line, within, rest-added, reached-as}
+use Rattle.text.proofs.TextLaws.{ahead-le}
+use Rattle.text.proofs.LineLaws.{tidied, same-text}
+use Rattle.lines.proofs.TurnLaws.{turn-says, turn-lent}
+use Rattle.lines.proofs.Along.{step-by, Along, Found, found-line, along-start, along-line, within, rest-added, reached-as}
 use borrow.Author.Needs.{needs}
 use Rattle.lines.proofs.replay.each_line.Statement.{statement}
 use Rattle.lines.proofs.replay.each_line.Tie as tie
@@ -23,7 +26,7 @@ abbrev μ-loop : tie.MeasureT-loop
 found : (c : tie.Else1 Inv-loop μ-loop) →
     let l = c .before .before .before .loop in
     let t = c .before .before .before .before .before .before .before .before .before .args in
-    Found (t .bytes .now) (t .from .line) (way (t .from .booted) (t .from .tables) (t .mem .now) (t .out .now) 0)
+    Found (t .bytes .now) (c .before .before .before .before .before .tidy .result) (way (t .from .booted) (t .from .tables) (t .mem .now) (t .out .now) 0)
     (l .line) (l .at) (way (l .booted) (l .tables) (l .mem) (l .out) (l .written)) (c .before .line-end .result)
 found c = found-line _ _ _ _ _ _ (c .before .before .before .loop .inv) (c .before .line-end .ensures) (c .if1 .left)
 
@@ -37,25 +40,17 @@ one-line : (c : tie.Joined2 Inv-loop μ-loop) →
     ≡ stepped (held (l .line) ++ take (f .before .line-end .result - l .at) (drop (l .at) (t .bytes .now)))
     (way (l .booted) (l .tables) (l .mem) (l .out) (l .written))
 one-line c =
-    let l = c .before .before .before .before .before .before .before .before .before .before .before .before .loop in
     let h = c .before .before .before .before .before .before .before .hear-with .ensures in
     let a = c .before .before .before .decode .ensures in
     let n = c .before .before .number .ensures in
+    let room = found (c .before .before .before .before .before .before .before .before .before) .room in
     ⊎-elim
-    (λ w. rw (w .22, w .23, w .24, w .25) (step-lent _ _ (l .tables) _ _ _ h a n (w .0 .taken) (w .15 .ensures) (w .19 .ensures)))
-    (λ w. rw (w .10, w .11, w .12, w .13) (step-moved _ _ _ _ _ _ h (w .2 .ensures) (w .6 .ensures)))
+    (λ w. rw (w .22, w .23, w .24, w .25) (step-by _ _ room (turn-lent _ _ h a n (c .before .moves-nothing .ensures) (w .0 .taken) (w .15 .ensures)) (w .19 .ensures)))
+    (λ w. rw (w .10, w .11, w .12, w .13) (step-by _ _ room (turn-says _ _ h (w .2 .ensures)) (w .6 .ensures)))
     (c .if2 .came)
 
-put-requires : tie.Need-put-requires Inv-loop μ-loop
-put-requires c κs =
-    let serve = c .before .before .before in
-    let d = serve .before .before .before .before .before .before .before .before .before .before .before .before .before .before in
-    found (d .before .before .before .before .before .before .before .before .before .before) .room
-
-put-requires-2 : tie.Need-put-requires-2 Inv-loop μ-loop
-put-requires-2 c κs =
-    let turn = c .before .before .before in
-    found (turn .before .before .before .before .before .before .before .before .before .before .before) .room
+turn-requires : tie.Need-turn-requires Inv-loop μ-loop
+turn-requires c κs = (c .before .before .before .before .decode .ensures, c .before .before .before .number .ensures)
 
 add-written : tie.Need-add-written Inv-loop μ-loop
 unfolding answer-bytes
@@ -66,7 +61,7 @@ add-written c =
 add-at : tie.Need-add-at Inv-loop μ-loop
 add-at c =
     let f = c .before .before .before .before .before .before .before .before .before .before in
-    found f .end-fits (search needs)
+    found f .end-fits (f .before .before .before .before .before .before .before .before .before .good .1 .0 .0)
 
 loop-again : tie.Need-loop-again Inv-loop μ-loop
 unfolding answer-bytes
@@ -74,14 +69,19 @@ loop-again c =
     let f = c .before .before .before .before .before .before .before .before .before .before in
     found f .more (c .empty .ensures) (one-line (c .before))
 
+-- the text of the line that came with the call
+whole : (c : tie.After-tidy Inv-loop μ-loop) → length (c .before .before .before .before .args .from .line .text) ≡ 33
+whole c = search needs
+
 -- the loop ends after the last feed, or at bytes that are kept (1: `line_end`, 4: `add`)
 returns : tie.Need-returns Inv-loop μ-loop
 returns c =
     let q = c .before .before .loop .inv in
-    reached-as (c .accepted .ensures) (⊎-elim
+    let tidy = c .before .before .before .before in
+    rw (← same-text _ (tidy .tidy .ensures) (whole tidy)) (reached-as (c .accepted .ensures) (⊎-elim
     (λ w. rw (w .1) (along-line _ _ _ _ _ _ q (w .0 .left)))
     (λ w. rw (w .5) (rest-added _ _ _ _ _ _ q (w .1 .ensures) (w .2 .taken) (w .4 .ensures)))
-    (c .before .loop-test .came))
+    (c .before .loop-test .came)))
 
 pub each-line-spec : {M : Type 1} → statement M
 each-line-spec =
@@ -89,28 +89,30 @@ each-line-spec =
     (tie.spec
     Inv-loop
     μ-loop
-    (λ c. along-start _ _ _ refl (c .before .before .before .before .before .pre .0) (c .before .before .before .before .before .pre .1))
-    (λ c κs. search needs)
-    (λ c. search needs)
-    (λ c. search needs)
-    (λ c. search (needs, within _ _ _ _ _ _ (c .before .before .before .loop .inv) (c .before .line-end .ensures)))
-    (λ c κs. search needs)
-    (λ c. search needs)
-    (λ c. search needs)
-    (λ c. search needs)
-    (λ c κs. search needs)
-    (λ c κs. search needs)
-    (λ c κs. search needs)
-    (λ c κs. search needs)
-    put-requires
-    (λ c κs. search needs)
-    put-requires-2
-    (λ c κs. search needs)
+    (λ c κs. tt)
+    (λ c. along-start _ _ _ refl (tidied _ (c .before .tidy .ensures)) (c .before .before .before .before .before .pre))
+    (λ c κs. tt)
+    (λ c. ahead-le _ _ (c .before .line-end .ensures))
+    (λ c. ahead-le _ _ (c .before .line-end .ensures))
+    (λ c. within _ _ _ _ _ _ (c .before .before .before .loop .inv) (c .before .line-end .ensures))
+    (λ c κs. tt)
+    (λ c. ahead-le _ _ (c .before .line-end .ensures))
+    (λ c. ahead-le _ _ (c .before .line-end .ensures))
+    (λ c. within _ _ _ _ _ _ (c .before .before .before .loop .inv) (c .before .line-end .ensures))
+    (λ c κs. tt)
+    (λ c κs. tt)
+    (λ c κs. tt)
+    (λ c κs. tt)
+    (λ c κs. tt)
+    (λ c κs. tt)
+    turn-requires
+    (λ c κs. tt)
+    (λ c κs. tt)
     add-written
     add-at
     (λ c. found (c .before .before .before .before .before .before .before .before .before .before) .onward)
     loop-again
-    (λ c κs. search needs)
+    (λ c κs. tt)
     (λ c. c .before .before .loop .inv .memory-long)
     (λ c. c .before .before .loop .inv .out-long)
     returns)

@@ -1,6 +1,5 @@
 -- `lines::replay::own_number` meets its contract.
 use Rattle.lines.proofs.Fronts.{own-1, own-2, own-0}
-use borrow.Author.Needs.{needs}
 use Rattle.lines.proofs.replay.own_number.Statement.{statement}
 use Rattle.lines.proofs.replay.own_number.Tie as tie
 
@@ -25,4 +24,4 @@ returns-3 c =
 
 pub own-number-spec : {M : Type 1} → statement M
 own-number-spec =
-    tie.close (tie.spec (λ c κs. search needs) (λ c κs. search needs) returns (λ c κs. search needs) returns-2 returns-3)
+    tie.close (tie.spec (λ c κs. tt) (λ c κs. tt) returns (λ c κs. tt) returns-2 returns-3)

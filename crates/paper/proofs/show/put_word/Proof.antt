@@ -23,7 +23,7 @@ put-word-spec =
     (λ c. search needs)
     (λ c. search needs)
     (λ c. search needs)
-    (λ c κs. search needs)
+    (λ c κs. tt)
     (λ c. search needs)
     (λ c. (search needs, c .before .before .set-byte .kept .0 ∙ c .before .before .before .before .before .loop .inv .1))
     (λ c. c .before .loop .inv .1)

@@ -48,7 +48,7 @@ find-spec =
     (λ c. (search needs, passed-none _ _))
     (λ c. search needs)
     (λ c. search needs)
-    (λ c κs. search needs)
+    (λ c κs. tt)
     (λ c. found _ _ _ (c .before .before .before .before .loop .inv .1) (c .before .before .before .loop-test .taken)
     (tested _ _ (c .before .key-in .ensures) ∙ c .if1 .taken))
     (λ c. search needs)

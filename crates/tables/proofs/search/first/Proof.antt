@@ -25,7 +25,7 @@ first-spec =
     (λ c. (search needs, passed-none _ _))
     (λ c. search needs)
     (λ c. search needs)
-    (λ c κs. search needs)
+    (λ c κs. tt)
     (λ c. sym (passed-hit _ _ _ 0 (c .before .before .before .loop-test .taken) (c .before .before .before .before .loop .inv .1)
     (sym (c .before .hits .ensures) ∙ c .if1 .taken)))
     (λ c. search needs)

@@ -1,5 +1,4 @@
 -- `tables::state::iommu_page_is_quiescent` meets its contract.
-use borrow.Author.Needs.{needs}
 use Rattle.numbers.specs.Tests.{_and_, isnt}
 use Rattle.tables.proofs.state.iommu_page_is_quiescent.Statement.{statement}
 use Rattle.tables.proofs.state.iommu_page_is_quiescent.Tie as tie
@@ -9,4 +8,4 @@ unfolding _and_ isnt
 returns c = rw (c .before .has .ensures, c .has2 .ensures)
 
 pub iommu-page-is-quiescent-spec : {M : Type 1} → statement M
-iommu-page-is-quiescent-spec = tie.close (tie.spec (λ c κs. search needs) (λ c κs. search needs) returns)
+iommu-page-is-quiescent-spec = tie.close (tie.spec (λ c κs. tt) (λ c κs. tt) returns)

@@ -1,5 +1,4 @@
 -- `tables::state::lookup` meets its contract.
-use borrow.Author.Needs.{needs}
 use borrow.Author.Tests.{ne-eqb, eq-eqb}
 use Rattle.numbers.specs.Tests.{isnt}
 use Rattle.tables.proofs.state.lookup.Statement.{statement}
@@ -14,4 +13,4 @@ unfolding isnt
 returns-2 c = rw (← c .before .effective-entry .ensures, eq-eqb _ _ (c .if1 .left))
 
 pub lookup-spec : {M : Type 1} → statement M
-lookup-spec = tie.close (tie.spec (λ c κs. search needs) returns returns-2)
+lookup-spec = tie.close (tie.spec (λ c κs. tt) returns returns-2)

@@ -1,5 +1,4 @@
 -- `lines::replay::Replay::feed` meets its contract.
-use borrow.Author.Needs.{needs}
 use Rattle.lines.proofs.replay.Replay.feed.Statement.{statement}
 use Rattle.lines.proofs.replay.Replay.feed.Tie as tie
 
@@ -7,7 +6,7 @@ pub feed-spec : {M : Type 1} → statement M
 feed-spec =
     tie.close
     (tie.spec
-    (λ c κs. search needs)
-    (λ c. search needs)
-    (λ c. search needs)
+    (λ c κs. tt)
+    (λ c. c .before .before .before .mem .given)
+    (λ c. c .before .out .given)
     (λ c. c .before .before .before .before .go .ensures))

@@ -62,5 +62,5 @@ boot-spec =
     (λ c. search needs)
     loop-less
     loop-again
-    (λ c κs. search needs)
+    (λ c κs. tt)
     returns)

@@ -1,0 +1,6 @@
+pub mod ListLaws
+pub mod Locals
+pub mod Called
+pub mod Again
+pub mod Three
+pub mod Answered

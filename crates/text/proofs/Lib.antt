@@ -1,0 +1,4 @@
+pub mod TextLaws
+pub mod Cuts
+pub mod AnswerLaws
+pub mod LineLaws

@@ -1,0 +1,4 @@
+pub mod Text
+pub mod Answers
+pub mod Line
+pub mod Walks

@@ -1,0 +1,3 @@
+pub mod VerdictLaws
+pub mod Places
+pub mod Sided
