@@ -1,4 +1,6 @@
 // A list of actions, one after the other: as frames in lent bytes, and as decoded actions.
+#![tactic(auto)]
+
 ghost use Rattle.std.specs.Prelude.{◌≡◌, ◌*◌, ◌≤◌, ◌<◌, cond, eqb, length, set};
 ghost use Rattle.numbers.specs.Sizes.{frame_bytes};
 ghost use Rattle.numbers.specs.Frames.{frame_number};

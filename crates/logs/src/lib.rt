@@ -1,1 +1,2 @@
 // Theory only: what holds of whole logs. The definitions are in specs, their laws in proofs.
+#![tactic(auto)]

@@ -31,6 +31,7 @@ least-applies (false ⇒ n ∣ rs) = ⊎_elim (λ e. inl e) (λ a. inr (later a)
 -- and is no lower than where the numbers start
 pub above : {k : ℕ} (n : ℕ) (rs : Rules) → rising n rs ≡ true → Applies k rs → n ≤ k
 unfolding rising
+above n accept r applied = elim applied [ ]
 above n (bad ⇒ k ∣ rs) r here = leb-true n k (and_l _ _ (and_r _ _ r))
 above n (bad ⇒ k ∣ rs) r (later a) =
     let i : n ≤ k = leb-true n k (and_l _ _ (and_r _ _ r)) in let h : k ≤ _ = above k rs (and_r _ _ (and_r _ _ r)) a in omega arith
@@ -38,6 +39,7 @@ above n (bad ⇒ k ∣ rs) r (later a) =
 -- where a number applies one is given, and none that applies is lower
 pub least-lowest : {k : ℕ} (n : ℕ) (rs : Rules) → rising n rs ≡ true → Applies k rs → (0 < least rs) × (least rs ≤ k)
 unfolding least rising
+least-lowest n accept r applied = elim applied [ ]
 least-lowest n (true ⇒ k ∣ rs) r a = (
   ltb-true 0 k (and_l _ _ r),
   above k (true ⇒ k ∣ rs) (and_i (and_l _ _ r) (and_i (le-leb k k (omega arith)) (and_r _ _ (and_r _ _ r)))) a,

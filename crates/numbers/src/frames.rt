@@ -2,7 +2,7 @@
 ghost use Rattle.std.specs.Prelude.{◌≡◌, cond, ◌<◌, get_or};
 ghost use Rattle.numbers.specs.Frames.{big, decode, row_of, stray, beyond, frame_number};
 
-#[derive(Drop)]
+#[derive(Clone, Copy)]
 pub struct Action {
     pub kind: u8,
     pub guest: u8,

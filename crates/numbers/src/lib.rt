@@ -1,4 +1,6 @@
 // Numbers and entries: ids, keys, entries and pairs as words, the page and offset of a word address, frames; what an answer carries.
+#![tactic(auto)]
+
 pub mod addresses;
 pub mod answers;
 pub mod entries;

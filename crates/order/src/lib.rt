@@ -1,4 +1,6 @@
 // Good order as a yes or no, over any tables: refusal 2.
+#![tactic(auto)]
+
 ghost use Rattle.std.specs.Prelude.{◌≡◌};
 ghost use Rattle.tables.specs.Wf.{in_order, wf};
 

@@ -8,7 +8,7 @@ use tables::state;
 use tables::state::Tables;
 
 // Which places are meant: pages, or CPUs, of which only who runs counts.
-#[derive(Drop)]
+#[derive(Clone, Copy)]
 pub enum Places {
     Pages,
     Cpus,

@@ -10,7 +10,7 @@ use tables::state;
 use tables::state::Side;
 
 // What the rows of a table are.
-#[derive(Drop)]
+#[derive(Clone, Copy)]
 pub enum Rows {
     Map(Side),
     Tlb,

@@ -1,5 +1,7 @@
 // What no log reaches, run: tables that no boot and no action comes to, an action by itself, a call's own refusals, lists. Each line is a frame, the
 // answer's number and word, and every place of the tables that changed, as old>new: holders are 0 nobody, 1 the hypervisor, 2 + g guest g.
+#![tactic(auto)]
+
 mod built;
 mod many;
 mod show;

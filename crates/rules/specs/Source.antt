@@ -153,7 +153,7 @@ pub record VmHypercallGuards (s : MachineState) (vm cpu : ℕ) : Type 0 where
 pub record MapGuards (d : Side) (s : MachineState) (vm page : ℕ) : Type 0 where
   pub wf : SourceWf s
   pub present : s.all_vms vm ≡ true
-  pub Entitled : Entitled d s vm page
+  pub entitled : Entitled d s vm page
 
 pub record UnmapGuards (d : Side) (s : MachineState) (vm gpa : ℕ) : Type 0 where
   pub wf : SourceWf s

@@ -1,4 +1,6 @@
 // A log from one descriptor, its answers to another. What a line means is not known here.
+#![tactic(auto)]
+
 ghost use Rattle.std.specs.Prelude.{◌≡◌, length};
 ghost use Rattle.io.specs.Counts.{IsPrefixLen};
 

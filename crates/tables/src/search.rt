@@ -8,7 +8,7 @@ ghost use Rattle.tables.specs.Wants.{W, has_key, ends_at, joins, meets, invalida
 use numbers::entries;
 
 // What is looked for.
-#[derive(Drop)]
+#[derive(Clone, Copy)]
 pub enum Want {
     // the key of an entry: unit, guest and guest page
     Key(u32),

@@ -8,7 +8,7 @@ use crate::search::Want;
 use numbers::entries;
 use numbers::frames::Action;
 
-#[derive(Drop)]
+#[derive(Clone, Copy)]
 pub struct Tables {
     // stage-2 entries, and the CPUs' copies of them
     pub map: [u32; Tables::MAP_ROOM],
@@ -27,14 +27,14 @@ pub struct Tables {
 }
 
 // The two sides of the machine, alike but for what a guest may reach.
-#[derive(Drop)]
+#[derive(Clone, Copy)]
 pub enum Side {
     Cpu,
     Iommu,
 }
 
 // What a lookup finds.
-#[derive(Drop)]
+#[derive(Clone, Copy)]
 pub enum Found {
     Entry(u32),
     Nothing,

@@ -1,4 +1,6 @@
 // Logs by name, one after the other: the name of each, then its answers as the replay program gives them.
+#![tactic(auto)]
+
 use libc::STDOUT_FILENO;
 
 fn one(name: &[u8]) {

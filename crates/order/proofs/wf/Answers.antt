@@ -1,0 +1,11 @@
+-- `order::wf` meets its contract.
+use mathlib.Core.Path.{◌∙◌}
+use borrow.Author.Rules.{rules}
+use Rattle.numbers.specs.Sizes.{guests, units, pages, map_room, tlb_room, pair_room}
+use Rattle.tables.specs.Wf.{in_order}
+use Rattle.tables.proofs.WfLaws.{wf-sized}
+use Rattle.order.proofs.wf.Goals as goal
+
+pub returns : goal.returns
+unfolding in_order guests units pages map_room tlb_room pair_room
+returns c = c.in_order.ensures ∙ wf-sized _ (search rules)

@@ -1,0 +1,40 @@
+-- `tables::state::Tables::boot` meets its contract.
+use mathlib.Core.Bool.{false}
+use mathlib.Core.Path.{◌≡◌, refl, sym, ◌∙◌}
+use native.Mathlib.Nat.{div-one}
+use native.Mathlib.Omega.{arith}
+use lib.ListN.{length-set}
+use borrow.Author.Rules.{rules}
+use Rattle.numbers.specs.Sizes.{pages}
+use Rattle.tables.specs.State.{pool, bit, bare, empty, boot}
+use Rattle.tables.proofs.LoopLaws.{filled_none, filled_more, filled-end, halved, holder-bit, region-bit}
+use Rattle.tables.proofs.state.Tables.boot.Goals as goal
+
+pub loop-p-init : goal.loop-p-init
+unfolding pages
+loop-p-init c = (search rules, sym (div-one _), sym (div-one _), refl, refl, filled_none _ _ _, filled_none _ _ _)
+
+pub loop-p-smaller : goal.loop-p-smaller
+unfolding pages
+loop-p-smaller c = search rules
+
+pub loop-p-preserved : goal.loop-p-preserved
+unfolding pages
+loop-p-preserved c = (
+  search rules,
+  halved _ _ _ c.loop-p.invariant.1,
+  halved _ _ _ c.loop-p.invariant.2,
+  (simp length-set) ∙ c.loop-p.invariant.3,
+  (simp length-set) ∙ c.loop-p.invariant.4,
+  filled_more _ _ _ _ _ (omega arith) c.loop-p.invariant.5 (holder-bit _ _ _ c.loop-p.invariant.1),
+  filled_more _ _ _ _ _ (omega arith) c.loop-p.invariant.6 (region-bit _ _ _ c.loop-p.invariant.2),
+)
+
+pub returns : goal.returns
+unfolding boot empty bare pages
+returns c = let e : c.loop-p.p ≡ pages = omega arith in
+    rw (
+      c.empty-t.ensures,
+      filled-end (pool c.args.hypervisor) 0 _ pages c.loop-p.invariant.3 (rw e at c.loop-p.invariant.5),
+      filled-end (bit c.args.region) false _ pages c.loop-p.invariant.4 (rw e at c.loop-p.invariant.6),
+    )
