@@ -7,15 +7,10 @@ use mathlib.Core.List.{List}
 use Prim.Native.Nat.{ℕ}
 use Rattle.numbers.specs.Sizes.{guests, units}
 use Rattle.numbers.specs.Tests.{◌or◌}
-use Rattle.access.proofs.guests.hyper_call.Statement.{statement}
-use Rattle.access.proofs.guests.hyper_call.Tie as tie
+use Rattle.access.proofs.guests.hyper_call.Goals as goal
 
-returns : tie.Need-returns
+pub returns : goal.returns
 unfolding served number ◌or◌ guests units
-returns c =
-    let t = c.before.before.before.before.args in
+returns c = let t = c.args in
     rw c.wordless.ensures (λ (ws : List ℕ). ap observed
-    (unmoved (lent_on t.present.now t.running.now [] []) t.g t.u t.word c.before.asker.ensures ws))
-
-pub hyper-call-spec : {M : Type 1} → statement M
-hyper-call-spec = tie.close (tie.spec (λ c κs. tt) (λ c κs. tt) returns)
+    (unmoved (lent_on t.present.now t.running.now [] []) t.g t.u t.word c.asker-number.ensures ws))
