@@ -8,17 +8,12 @@ use Rattle.rules.specs.Parts.{with_walk}
 use Rattle.rules.specs.Actions.Op.{Fill}
 use Rattle.access.specs.Lent.{number}
 use Rattle.edits.proofs.Settled.{settled, number_of, stored_there}
-use Rattle.walks.proofs.Walks.fill.Statement.{statement}
-use Rattle.walks.proofs.Walks.fill.Tie as tie
+use Rattle.walks.proofs.Walks.fill.Goals as goal
 
-returns : tie.Need-returns
+pub returns : goal.returns
 unfolding number put
-returns c =
-    let t = c.before.before.before.before.before.before.before.before.before.args in
-    let m = t.t1.tables in
-    let e = c.before.before.before.before.fill.ensures in
+returns c = let t = c.args in
+    let m = t.self.tables in
+    let e = c.fill-verdict.ensures in
     λ (ws : List ℕ). settled m (Fill Cpu t.g t.u t.v) (number_of _ _ _ e) (with_walk Cpu m m.map) _ refl refl
-    (stored_there _ _ _ e m.tlb c.before.before.store-tlb.ensures) ws refl refl c.wordless.ensures
-
-pub fill_spec : {M : Type 1} → statement M
-fill_spec = tie.close (tie.spec (λ c κs. tt) (λ c κs. tt) (λ c κs. tt) returns)
+    (stored_there _ _ _ e m.tlb c.store_tlb.ensures) ws refl refl c.wordless.ensures
