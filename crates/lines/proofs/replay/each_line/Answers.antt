@@ -1,16 +1,12 @@
 -- `lines::replay::each_line` meets its contract.
 use mathlib.Core.Path.{◌≡◌, refl}
-use mathlib.Core.List.{◌++◌}
 use native.Mathlib.Omega.{arith}
-use Prim.Native.Nat.{◌+◌, ◌-◌}
-use lib.ListN.{length, take, drop}
+use lib.ListN.{length}
 use Rattle.text.specs.Answers.{answer_bytes}
-use Rattle.text.specs.Line.{held}
-use Rattle.lines.specs.Walks.{way, stepped}
 use Rattle.text.proofs.TextLaws.{ahead-le}
 use Rattle.text.proofs.LineLaws.{tidied, same_text}
 use Rattle.lines.proofs.TurnLaws.{turn-says, turn-lent}
-use Rattle.lines.proofs.Along.{step_by, Found, found-line, along-start, along-line, within, rest-added, reached-as}
+use Rattle.lines.proofs.Along.{step_by, found-line, along-start, along-line, within, rest-added, reached-as}
 use borrow.Author.Rules.{rules}
 use Rattle.lines.proofs.replay.each_line.Goals as goal
 use Rattle.lines.proofs.replay.each_line.Goals.{then-booted-moves_nothing, else-booted-moves_nothing, else-loop-at-test, then-loop-at-test+then-bytes-end}
