@@ -14,10 +14,8 @@ pub const WORDS: usize = Referee::WORDS;
 // Eight bytes, highest first.
 fn put_word(bytes: &mut [u8], at: u16, word: u64) {
     let mut rest = word;
-    let mut left: u16 = 8;
-    while 0 < left {
-        left -= 1;
-        cells::set_byte(bytes, (at as usize) + (left as usize), (rest % 256) as u8);
+    for i in (0..8u16).rev() {
+        cells::set_byte(bytes, (at as usize) + (i as usize), (rest % 256) as u8);
         rest = rest / 256;
     }
 }

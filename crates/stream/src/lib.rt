@@ -14,7 +14,7 @@ const BYTES: usize = 65536;
 const ROOM: usize = BYTES * answers::BYTES;
 
 // What a turn leaves: whether to go on, and where the log then stands.
-#[derive(Clone, Copy)]
+#[derive(Drop)]
 struct Left {
     more: bool,
     log: Replay,
