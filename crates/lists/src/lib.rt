@@ -109,8 +109,8 @@ fn each_frame(
     ensures { ended result mem.new numbers.new words.new
         ≡ went (frame_at bytes.now) first.handled (ended first mem.old numbers.old words.old) }
 {
-    let mut ran = first;
     let count = first.handled;
+    let mut ran = first;
     let mut i: usize = 0;
     while i < count {
         let at = i * Action::BYTES;
@@ -171,8 +171,7 @@ pub fn run(
     each_frame(first, bytes, mem, numbers, words)
 }
 
-// A list of decoded actions. A slice of structs is lent, so this function is proved by hand: it takes the slice apart and leaves
-// the work to others. The tables are moved for each action.
+// A list of decoded actions. The tables are moved for each action.
 pub fn run_actions(
     referee: Referee,
     actions: &[Action],

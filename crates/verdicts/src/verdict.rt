@@ -12,7 +12,7 @@ use numbers::frames;
 use tables::search;
 use tables::search::Want;
 
-#[derive(Drop)]
+#[derive(Clone, Copy)]
 pub struct Verdict {
     pub number: u8,
     // where the number is 0: the place that changes, and the row that goes there

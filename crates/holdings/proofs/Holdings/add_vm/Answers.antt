@@ -1,0 +1,14 @@
+-- `holdings::Holdings::add_vm` meets its contract.
+use Prim.Native.Nat.{ℕ}
+use mathlib.Core.List.{List}
+use mathlib.Core.Path.{refl}
+use Rattle.rules.specs.Parts.{with_present}
+use Rattle.rules.specs.Actions.Op.{AddVm}
+use Rattle.access.specs.Lent.{number}
+use Rattle.edits.proofs.Settled.{settled}
+use Rattle.holdings.proofs.Holdings.add_vm.Goals as goal
+
+pub returns : goal.returns
+unfolding number
+returns c = let t = c.args in
+    λ (ws : List ℕ). settled t.self.tables (AddVm t.g) c.add_vm-number.ensures (with_present t.self.tables) _ refl refl c.mark.ensures ws refl refl c.wordless.ensures
