@@ -1,13 +1,13 @@
 -- The kind chooses the rule.
 use mathlib.Core.Path.{◌≡◌, refl, sym, ap, subst⁻¹, ◌∙◌}
-use mathlib.Core.Bool.{Bool, true, false}
+use mathlib.Core.Bool.{true, false}
 use mathlib.Core.List.{List}
 use Prim.Native.Nat.{ℕ, zero, suc, ◌+◌, ◌≤◌, ◌<◌}
 use native.Mathlib.Omega.{arith}
 use lib.Dec.{eqb}
 use borrow.Author.Tests.{eqb-true, eqb-false, leb-true, eq-eqb}
 use Rattle.numbers.specs.Rules.{least}
-use Rattle.numbers.specs.Tests.{◌and◌, ◌or◌, isnt}
+use Rattle.numbers.specs.Tests.{◌or◌, isnt}
 use Rattle.numbers.specs.Frames.{row_of, frame_number}
 use Rattle.numbers.specs.declared.frames.Action.{Action}
 use Rattle.numbers.proofs.Bools.{split, and_l, and_r, implies}

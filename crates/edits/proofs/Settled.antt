@@ -20,7 +20,7 @@ use Rattle.tables.specs.State.{guest, map_of, tlb_of}
 use Rattle.tables.specs.declared.search.Want.{Want}
 use Rattle.tables.specs.declared.state.Tables.{Tables}
 use Rattle.tables.specs.declared.state.Side.{Side}
-use Rattle.tables.proofs.TableLaws.{wipe-from-first}
+use Rattle.tables.proofs.TableLaws.{wipe_from-first}
 use Rattle.rules.specs.Parts.{with_walk}
 use Rattle.rules.specs.Actions.{Op, refusals, effect, touch, touched, handed_back, clear_page, acted}
 use Rattle.rules.specs.Actions.Touch.{Keeps, Clears}
@@ -81,7 +81,7 @@ module _ (rules : Rules) (at row : ℕ) {v : Verdict} (e : v ≡ verdict rules a
 pub freed-there : (rules : Rules) (want : Want) (t : List ℕ) {v : Verdict} → v ≡ verdict rules (first (hit W (meets want)) t) 0 → {x : List ℕ} →
     x ≡ freed v want t → x ≡ cond (eqb v.number 0) (wipe W (meets want) t) t
 unfolding verdict
-freed-there rules want t e c = c ∙ rw e (split (eqb (least rules) 0) (λ b. rw b (wipe-from-first W (meets want) t)) (λ b. rw (b, b)))
+freed-there rules want t e c = c ∙ rw e (split (eqb (least rules) 0) (λ b. rw b (wipe_from-first W (meets want) t)) (λ b. rw (b, b)))
 
 -- a new pair, or the one that stands
 pub joined : (k : ℕ → Bool) (r : ℕ) (t : List ℕ) → set t (new_place k t) r ≡ cond (has W k t) t (place W r t)

@@ -3,7 +3,7 @@ use Rattle.std.specs.Prelude.{ℕ, cond, List, eqb, ltb, set}
 use Rattle.numbers.specs.Sizes.{guests}
 use Rattle.tables.specs.State.{nobody, guest}
 use Rattle.tables.specs.Wants.{W, meets}
-use Rattle.tables.specs.Steps.{wipe-from}
+use Rattle.tables.specs.Steps.{wipe_from}
 use Rattle.tables.specs.declared.search.Want.{Want}
 use Rattle.verdicts.specs.declared.verdict.Verdict.{Verdict}
 use Rattle.rules.specs.Actions.{Outcome}
@@ -19,7 +19,7 @@ stored v t = cond (eqb v.number 0) (set t v.at v.row) t
 
 -- the rows that are looked for, from the verdict's place on
 abbrev pub freed : Verdict → Want → List ℕ → List ℕ
-freed v want t = cond (eqb v.number 0) (wipe-from W (meets want) v.at t) t
+freed v want t = cond (eqb v.number 0) (wipe_from W (meets want) v.at t) t
 
 -- a guest as a holder; one out of range is nobody
 abbrev pub who_is : ℕ → ℕ

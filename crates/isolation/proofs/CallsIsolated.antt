@@ -19,7 +19,7 @@ use Rattle.tables.specs.Wf.{wf}
 use Rattle.tables.specs.declared.state.Tables.{Tables}
 use Rattle.tables.proofs.WfAgrees.{wf-sound}
 use Rattle.rules.specs.Actions.{refusals, accepted, does, outcome}
-use Rattle.rules.specs.Calls.{op_of, action_rules, taken, act_rules, act, Machine, after, answer, accepted_of, written, refused, ran, run_rules, listed, frame_at, run, action_at, run_actions}
+use Rattle.rules.specs.Calls.{op_of, action_rules, taken, act_rules, act, Machine, answer, accepted_of, written, refused, ran, run_rules, listed, frame_at, run, action_at, run_actions}
 use Rattle.rules.proofs.Lowest.{passes, rising-run, refused-changes-nothing}
 use Rattle.rules.proofs.Lists.{accepted-op, act-good}
 use Rattle.edits.specs.Edits as answers

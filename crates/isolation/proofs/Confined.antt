@@ -75,14 +75,14 @@ module _ (s : MachineState) (subject other page : ℕ) (h : SourceWf s) (differ 
   private-excludes Iommu p e = dma-excludes-other (inl p.owned) e
 
   -- no translation of the other's leads to a private page; nobody need be present
-  pub lemma-state-translation-confined : (cpu gpa : ℕ) → PrivatePage s subject page → live W (effective_entry Cpu s cpu other gpa) ≡ true →
+  pub lemma_state_translation_confined : (cpu gpa : ℕ) → PrivatePage s subject page → live W (effective_entry Cpu s cpu other gpa) ≡ true →
       page_in (effective_entry Cpu s cpu other gpa) ≡ page → ⊥
-  lemma-state-translation-confined cpu gpa p l e = leads-elsewhere Cpu s cpu other gpa h (private-excludes Cpu p) l e
+  lemma_state_translation_confined cpu gpa p l e = leads-elsewhere Cpu s cpu other gpa h (private-excludes Cpu p) l e
 
   -- and none of its devices' to a page that is the subject's, with a region or without; nobody need be present
-  pub lemma-state-dma-isolation : (stream gpa : ℕ) → (s.vm_owned subject page ≡ true) ⊎ (s.iommu_owned subject page ≡ true) →
+  pub lemma_state_dma_isolation : (stream gpa : ℕ) → (s.vm_owned subject page ≡ true) ⊎ (s.iommu_owned subject page ≡ true) →
       live W (effective_entry Iommu s stream other gpa) ≡ true → page_in (effective_entry Iommu s stream other gpa) ≡ page → ⊥
-  lemma-state-dma-isolation stream gpa o l e = leads-elsewhere Iommu s stream other gpa h (dma-excludes-other o) l e
+  lemma_state_dma_isolation stream gpa o l e = leads-elsewhere Iommu s stream other gpa h (dma-excludes-other o) l e
 
 -- ── what a guest observes ──
 -- an address that is there
@@ -116,4 +116,4 @@ lemma_state_read_confined s subject page vm cpu gva h differ p = record {
   where
     away : (pa : ℕ) → translated_word s cpu vm gva ≡ some pa → page_of pa ≡ page → ⊥
     away pa t e = let z = translated-page s cpu vm gva pa t in
-        lemma-state-translation-confined s subject vm page h differ cpu (page_of gva) p z.0 (sym z.1 ∙ e)
+        lemma_state_translation_confined s subject vm page h differ cpu (page_of gva) p z.0 (sym z.1 ∙ e)

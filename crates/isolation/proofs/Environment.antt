@@ -131,9 +131,9 @@ module _ {s₁ s₂ : Machine} {subject : ℕ} (r : EnvReachable s₁ s₂ subje
   env-tables = ap (λ (s : Machine). s.tables) r.moves ∙ guest-keeps-tables s₁ r.action r.acts
 
   -- so the state after it is in good order, with the guests, the owners and the translations of before; a device's action too
-  pub lemma-env-step-facts :
+  pub lemma_env_step_facts :
       SourceWf (seen s₂) × SameIdentityAs (seen s₂) (seen s₁) × SameOwnershipAs (seen s₂) (seen s₁) × SameTranslationAs (seen s₂) (seen s₁)
-  lemma-env-step-facts = rw env-tables (
+  lemma_env_step_facts = rw env-tables (
     source-wf s₁.tables s₂.memory (wf-sound _ r.well_formed),
     refl,
     record { hypervisor_owned = refl; vm_owned = refl; shared_pages = refl; iommu_owned = refl; iommu_shared = refl },
@@ -145,11 +145,11 @@ module _ {s₁ s₂ : Machine} {subject : ℕ} (r : EnvReachable s₁ s₂ subje
   env-private p = rw env-tables (record { owned = p.owned; unshared = p.unshared })
 
   -- after it no guest but the subject reads a private page, nor learns anything of its words; nobody need be present, nor anything be observed
-  pub lemma-read-isolation : (page vm cpu gva : ℕ) → PrivatePage (seen s₁) subject page → (vm ≡ subject → ⊥) → Unreadable (seen s₂) page cpu vm gva
-  lemma-read-isolation page vm cpu gva p differ =
-      lemma_state_read_confined (seen s₂) subject page vm cpu gva lemma-env-step-facts.0 differ (env-private p)
+  pub lemma_read_isolation : (page vm cpu gva : ℕ) → PrivatePage (seen s₁) subject page → (vm ≡ subject → ⊥) → Unreadable (seen s₂) page cpu vm gva
+  lemma_read_isolation page vm cpu gva p differ =
+      lemma_state_read_confined (seen s₂) subject page vm cpu gva lemma_env_step_facts.0 differ (env-private p)
 
   -- what the subject observes of a private page stays, where it observes nothing too; it need not be present
-  pub lemma-write-isolation : (cpu gva : ℕ) → PrivatePage (seen s₁) subject (page_in (effective_entry Cpu (seen s₁) cpu subject (page_of gva))) →
+  pub lemma_write_isolation : (cpu gva : ℕ) → PrivatePage (seen s₁) subject (page_in (effective_entry Cpu (seen s₁) cpu subject (page_of gva))) →
       read_observation (seen s₂) cpu subject gva ≡ read_observation (seen s₁) cpu subject gva
-  lemma-write-isolation cpu gva p = rw r.moves (guest-keeps-reads s₁ r.action r.acts (wf-sound _ r.well_formed) r.other cpu gva p)
+  lemma_write_isolation cpu gva p = rw r.moves (guest-keeps-reads s₁ r.action r.acts (wf-sound _ r.well_formed) r.other cpu gva p)

@@ -39,8 +39,8 @@ use Rattle.rules.proofs.Accesses.{by_cond}
 use Rattle.rules.proofs.Effects.{share-does, unshare-does}
 use Rattle.rules.proofs.SourceRuns.{boot-init}
 use Rattle.isolation.specs.Security.{PrivatePage, actor, stepped, EnvReachable, declassifies, StaysPrivate, Unreadable, Reachable}
-use Rattle.isolation.proofs.Confined.{lemma_state_read_confined, lemma-state-dma-isolation}
-use Rattle.isolation.proofs.Environment.{action-clear, guest-keeps-reads, env-tables, env-private, lemma-write-isolation}
+use Rattle.isolation.proofs.Confined.{lemma_state_read_confined, lemma_state_dma_isolation}
+use Rattle.isolation.proofs.Environment.{action-clear, guest-keeps-reads, env-tables, env-private, lemma_write_isolation}
 
 -- ── good order along runs ──
 -- every state of the source that is as `init` says is in good order: nothing is there that a clause could speak of. Its region may be any
@@ -158,29 +158,29 @@ module _ (subject page : ℕ) where
   with-owner s h p = ((source-wf s.tables s.memory h).ownership_1 subject page p.0, record { owned = p.0; unshared = p.1 })
 
   -- one action of any kind, a device's too; a refused one may be a share or a reclaim of the page
-  pub lemma-step-preserves-private : (s : Machine) (a : Action) → wf s.tables ≡ true → PrivatePage (seen s) subject page →
+  pub lemma_step_preserves_private : (s : Machine) (a : Action) → wf s.tables ≡ true → PrivatePage (seen s) subject page →
       StaysPrivate s a subject page → ((seen (stepped s a)).all_vms subject ≡ true) × PrivatePage (seen (stepped s a)) subject page
-  lemma-step-preserves-private s a w p k =
+  lemma_step_preserves_private s a w p k =
       let h = wf-sound _ w in with-owner (stepped s a) (next-wf s.tables a h) (private-next s a h (p.owned, p.unshared) k)
 
   -- ── at place k of a run, where no accepted action before it ends the page's privacy; the source asks that of those after it too ──
   module _ (f : ℕ → Action) (s : Machine) (k : ℕ) (w : wf s.tables ≡ true) (p : PrivatePage (seen s) subject page)
       (n : (i : ℕ) → i < k → StaysPrivate (after f i s) (f i) subject page) where
     -- the page is private there
-    pub lemma-trace-preserves-private : ((seen (after f k s)).all_vms subject ≡ true) × PrivatePage (seen (after f k s)) subject page
-    lemma-trace-preserves-private =
+    pub lemma_trace_preserves_private : ((seen (after f k s)).all_vms subject ≡ true) × PrivatePage (seen (after f k s)) subject page
+    lemma_trace_preserves_private =
         let h = wf-sound _ w in with-owner (after f k s) (after-wf f k s h) (private-on f s k h (p.owned, p.unshared) n)
 
     -- nobody else reads it there, nor learns anything of its words; nobody need be present, nor anything be observed
-    pub lemma-trace-read-isolation : (vm cpu gva : ℕ) → (vm ≡ subject → ⊥) → Unreadable (seen (after f k s)) page cpu vm gva
-    lemma-trace-read-isolation vm cpu gva differ =
-        lemma_state_read_confined (seen (after f k s)) subject page vm cpu gva (lemma_active_vm_wf f s k w) differ lemma-trace-preserves-private.1
+    pub lemma_trace_read_isolation : (vm cpu gva : ℕ) → (vm ≡ subject → ⊥) → Unreadable (seen (after f k s)) page cpu vm gva
+    lemma_trace_read_isolation vm cpu gva differ =
+        lemma_state_read_confined (seen (after f k s)) subject page vm cpu gva (lemma_active_vm_wf f s k w) differ lemma_trace_preserves_private.1
 
     -- where the next action is another guest's or its device's, the subject observes there what it did before, or nothing as before
-    pub lemma-trace-write-isolation : (cpu gva : ℕ) → EnvReachable (after f k s) (after f (suc k) s) subject →
+    pub lemma_trace_write_isolation : (cpu gva : ℕ) → EnvReachable (after f k s) (after f (suc k) s) subject →
         page_in (effective_entry Cpu (seen (after f k s)) cpu subject (page_of gva)) ≡ page →
         read_observation (seen (after f (suc k) s)) cpu subject gva ≡ read_observation (seen (after f k s)) cpu subject gva
-    lemma-trace-write-isolation cpu gva r e = lemma-write-isolation r cpu gva (rw e lemma-trace-preserves-private.1)
+    lemma_trace_write_isolation cpu gva r e = lemma_write_isolation r cpu gva (rw e lemma_trace_preserves_private.1)
 
 -- ── over a stretch of the environment's actions ──
 -- what each place hands to the next, from place m to place n
@@ -214,7 +214,7 @@ lemma_trace_write_isolation_stretch f s subject page m n cpu gva l edges here p 
       present = rw (env-tables r) z.present;
       private = env-private r z.private;
       leads = rw (env-tables r) z.leads;
-      observed = lemma-write-isolation r cpu gva (rw z.leads z.private) ∙ z.observed;
+      observed = lemma_write_isolation r cpu gva (rw z.leads z.private) ∙ z.observed;
     })
 
 -- ── from boot, whatever the region ──
@@ -223,26 +223,26 @@ module _ {region : ℕ} {s : Machine} (r : Reachable region s) where
   reachable-tables = subst (λ (t : Machine). Wf t.tables) r.ends (after-wf r.acts r.count _ (boot-wf r.mask region))
 
   -- the state is in good order
-  pub lemma-reachable-wf : SourceWf (seen s)
-  lemma-reachable-wf = source-wf s.tables s.memory reachable-tables
+  pub lemma_reachable_wf : SourceWf (seen s)
+  lemma_reachable_wf = source-wf s.tables s.memory reachable-tables
 
   -- nobody else reads a private page, nor learns anything of its words; nobody need be present, nor anything be observed
-  pub lemma-reachable-read-isolation : (subject page vm cpu gva : ℕ) → PrivatePage (seen s) subject page → (vm ≡ subject → ⊥) →
+  pub lemma_reachable_read_isolation : (subject page vm cpu gva : ℕ) → PrivatePage (seen s) subject page → (vm ≡ subject → ⊥) →
       Unreadable (seen s) page cpu vm gva
-  lemma-reachable-read-isolation subject page vm cpu gva p differ = lemma_state_read_confined (seen s) subject page vm cpu gva lemma-reachable-wf differ p
+  lemma_reachable_read_isolation subject page vm cpu gva p differ = lemma_state_read_confined (seen s) subject page vm cpu gva lemma_reachable_wf differ p
 
   -- no action of another guest changes what the subject observes of one: the source's is accepted and by a CPU, this may be refused, or a device's
-  pub lemma-reachable-write-isolation : (a : Action) (vm subject cpu gva : ℕ) → actor (op_of a) ≡ some vm → (vm ≡ subject → ⊥) →
+  pub lemma_reachable_write_isolation : (a : Action) (vm subject cpu gva : ℕ) → actor (op_of a) ≡ some vm → (vm ≡ subject → ⊥) →
       PrivatePage (seen s) subject (page_in (effective_entry Cpu (seen s) cpu subject (page_of gva))) →
       read_observation (seen (stepped s a)) cpu subject gva ≡ read_observation (seen s) cpu subject gva
-  lemma-reachable-write-isolation a vm subject cpu gva acts differ p = guest-keeps-reads s a acts reachable-tables differ cpu gva p
+  lemma_reachable_write_isolation a vm subject cpu gva acts differ p = guest-keeps-reads s a acts reachable-tables differ cpu gva p
 
   -- no device of another guest reaches a page that is the subject's; nobody need be present
-  pub lemma-reachable-dma-isolation : (subject page vm stream gpa : ℕ) → (vm ≡ subject → ⊥) →
+  pub lemma_reachable_dma_isolation : (subject page vm stream gpa : ℕ) → (vm ≡ subject → ⊥) →
       ((seen s).vm_owned subject page ≡ true) ⊎ ((seen s).iommu_owned subject page ≡ true) →
       live W (effective_entry Iommu (seen s) stream vm gpa) ≡ true → page_in (effective_entry Iommu (seen s) stream vm gpa) ≡ page → ⊥
-  lemma-reachable-dma-isolation subject page vm stream gpa differ o l e =
-      lemma-state-dma-isolation (seen s) subject vm page lemma-reachable-wf differ stream gpa o l e
+  lemma_reachable_dma_isolation subject page vm stream gpa differ o l e =
+      lemma_state_dma_isolation (seen s) subject vm page lemma_reachable_wf differ stream gpa o l e
 
 -- ── the region ──
 -- no action, of any kind, changes it

@@ -21,7 +21,7 @@ use text::line::Line;
 use text::{answers, input};
 
 // Where a log stands between two pieces: the line that is not finished, whether the boot line has come, the tables.
-#[derive(Drop)]
+#[derive(Clone, Copy)]
 pub struct Replay {
     pub line: Line,
     pub booted: bool,

@@ -17,7 +17,7 @@ use Rattle.numbers.specs.declared.frames.Action.{Action}
 use Rattle.numbers.proofs.Bools.{split, isnt-i, isnt-no}
 use Rattle.tables.specs.Wf.{wf}
 use Rattle.tables.specs.declared.state.Tables.{Tables}
-use Rattle.rules.specs.Actions.{does, Outcome}
+use Rattle.rules.specs.Actions.{does}
 use Rattle.rules.specs.Calls.{op_of, action_rules, frame_at, Machine, taken, after, answer, accepted_of, written, listed}
 use Rattle.rules.specs.Calls as calls
 use Rattle.rules.proofs.Words.{length-touched}

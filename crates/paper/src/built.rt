@@ -4,6 +4,7 @@ use calls::referee::Referee;
 use edits::out::Out;
 use holdings::Holdings;
 use numbers::entries;
+use std::io;
 use tables::state::Tables;
 
 // Hypervisor pages 0..15, region 63, guests 1 and 2 present.
@@ -26,8 +27,8 @@ fn held() -> Tables {
 }
 
 // Case 6: guest 3 present, 1 CPU holder of page 5, pairs 1-2 and 2-3 on it, 2 maps it.
-pub fn second_pair(mem: &mut [u64; show::WORDS]) {
-    show::text(b"6: 1 holds page 5, pairs 1-2 and 2-3 on it, 2 maps it: unshare 1-2, and as 2-1\n");
+pub fn second_pair(rt: &impl Print, mem: &mut [u64; show::WORDS]) -> io::Result<()> {
+    println!(rt; "6: 1 holds page 5, pairs 1-2 and 2-3 on it, 2 maps it: unshare 1-2, and as 2-1")?;
     let mut t = held();
     let mut present = t.present;
     present[3] = true;
@@ -40,67 +41,70 @@ pub fn second_pair(mem: &mut [u64; show::WORDS]) {
     map[0] = entries::entry(0, 2, 2, 5, 1);
     t.map = map;
     let frames = [0x1501020000000005u64, 0x1502010000000005]; // UnsharePage
-    show::acts(t, &frames, mem);
+    show::acts(rt, t, &frames, mem)?;
+    Ok(())
 }
 
 // A pair that stands reversed counts as the same.
-pub fn reversed_pair(mem: &mut [u64; show::WORDS]) {
-    show::text(b"a pair stands as 2-1, 1 holds the page: share 1 with 2, unshare 1-2\n");
+pub fn reversed_pair(rt: &impl Print, mem: &mut [u64; show::WORDS]) -> io::Result<()> {
+    println!(rt; "a pair stands as 2-1, 1 holds the page: share 1 with 2, unshare 1-2")?;
     let mut t = held();
     let mut pairs = t.pairs;
     pairs[3] = entries::pair(2, 1, 5, 0);
     t.pairs = pairs;
     let frames = [0x1401020000000005u64, 0x1501020000000005]; // SharePage, UnsharePage
-    show::acts(t, &frames, mem);
+    show::acts(rt, t, &frames, mem)?;
+    Ok(())
 }
 
-fn by_itself(out: Out, t: Tables) {
-    show::text(b"by itself");
-    show::answer(out.seen);
-    show::changes(t, out.tables);
-    show::text(b"\n");
+fn by_itself(rt: &impl Print, out: Out, t: Tables) -> io::Result<()> {
+    print!(rt; "by itself")?;
+    show::answer(rt, out.seen)?;
+    show::changes(rt, t, out.tables)?;
+    println!(rt)
 }
 
 // Not well formed: a call refuses such tables with 2, and an action by itself still has its number.
-pub fn cached_alone(mem: &mut [u64; show::WORDS]) {
-    show::text(b"an entry stands in a TLB alone: reclaim its page, remove its guest\n");
+pub fn cached_alone(rt: &impl Print, mem: &mut [u64; show::WORDS]) -> io::Result<()> {
+    println!(rt; "an entry stands in a TLB alone: reclaim its page, remove its guest")?;
     let mut t = start();
     let mut tlb = t.tlb;
     tlb[31] = entries::entry(2, 2, 2, 5, 1);
     t.tlb = tlb;
     let frames = [0x1102000000000000u64]; // RemoveVm
-    show::acts(t, &frames, mem);
+    show::acts(rt, t, &frames, mem)?;
     let m = Holdings { tables: t };
-    by_itself(m.remove_vm(2), t);
+    by_itself(rt, m.remove_vm(2), t)?;
     let mut h = held();
     h.tlb = tlb;
     let reclaim = [0x1301000000000005u64]; // ReclaimPage
-    show::acts(h, &reclaim, mem);
+    show::acts(rt, h, &reclaim, mem)?;
     let n = Holdings { tables: h };
-    by_itself(n.reclaim_page(1, 5), h);
+    by_itself(rt, n.reclaim_page(1, 5), h)
 }
 
-fn act(t: Tables, bytes: &[u8], mem: &mut [u64]) {
+fn act(rt: &impl Print, t: Tables, bytes: &[u8], mem: &mut [u64]) -> io::Result<()> {
     let referee = Referee { tables: t };
-    by_itself(referee.act(bytes, mem), t);
+    by_itself(rt, referee.act(bytes, mem), t)
 }
 
 // AddVm 3, of so many bytes, in front of so many words.
-fn add_3(bytes: usize, memory: usize) {
+fn add_3(rt: &impl Print, bytes: usize, memory: usize) -> io::Result<()> {
     let mut mem = [0u64; show::WORDS];
     let mut frame = [0u8; 16];
     show::put(&mut frame, 0, 0x1003000000000000);
     act(
+        rt,
         start(),
         many::bytes_of(&frame, bytes),
         many::words_of(&mut mem, memory),
-    );
+    )
 }
 
 // The call's own 1: a byte too few, a word of memory too few. Nothing is changed.
-pub fn too_short() {
-    show::text(b"AddVm 3 in 15 bytes, in front of a word of memory less, and right\n");
-    add_3(15, show::WORDS);
-    add_3(16, show::WORDS - 1);
-    add_3(16, show::WORDS);
+pub fn too_short(rt: &impl Print) -> io::Result<()> {
+    println!(rt; "AddVm 3 in 15 bytes, in front of a word of memory less, and right")?;
+    add_3(rt, 15, show::WORDS)?;
+    add_3(rt, 16, show::WORDS - 1)?;
+    add_3(rt, 16, show::WORDS)
 }

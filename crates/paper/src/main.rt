@@ -2,17 +2,19 @@
 // answer's number and word, and every place of the tables that changed, as old>new: holders are 0 nobody, 1 the hypervisor, 2 + g guest g.
 #![tactic(auto)]
 
+use std::io;
+
 mod built;
 mod many;
 mod show;
 
-fn main() {
+fn main(rt: HostRuntime) -> io::Result<()> {
     let mut mem = [0u64; show::WORDS];
-    built::second_pair(&mut mem);
-    built::reversed_pair(&mut mem);
-    built::cached_alone(&mut mem);
-    built::too_short();
-    many::example();
-    many::decoded();
-    many::refused();
+    built::second_pair(&rt, &mut mem)?;
+    built::reversed_pair(&rt, &mut mem)?;
+    built::cached_alone(&rt, &mut mem)?;
+    built::too_short(&rt)?;
+    many::example(&rt)?;
+    many::decoded(&rt)?;
+    many::refused(&rt)
 }

@@ -6,6 +6,7 @@ use lists::Ran;
 use numbers::answers::Seen;
 use numbers::frames;
 use numbers::frames::Action;
+use std::io;
 use tables::state::Tables;
 
 const FRAMES: usize = 9;
@@ -29,45 +30,49 @@ const LIST: [u64; FRAMES] = [
 
 fn list() -> [u8; BYTES] {
     let mut bytes = [0u8; BYTES];
-    let mut i: u8 = 0;
-    while i < 9 {
-        let at = i as usize;
-        show::put(&mut bytes, i, LIST[at]);
-        i += 1;
+    for i in 0..9u8 {
+        show::put(&mut bytes, i, LIST[i as usize]);
     }
     bytes
 }
 
-fn places<'a>(numbers: &'a [u8], words: &'a [u64]) {
-    let mut i: usize = 0;
-    while i < numbers.len() {
+fn places<'a>(rt: &impl Print, numbers: &'a [u8], words: &'a [u64]) -> io::Result<()> {
+    for i in 0..numbers.len() {
         let seen = Seen {
             number: frames::byte(numbers, i),
             word: cells::load(words, i),
         };
-        show::answer(seen);
-        i += 1;
+        show::answer(rt, seen)?;
     }
+    Ok(())
 }
 
 // The list's own number, how many were handled and accepted, the answer places that were lent, and what changed.
-fn left<'a>(t: Tables, ran: Ran, mem: &[u64], numbers: &'a [u8], words: &'a [u64]) {
-    show::decimal(ran.number as u64);
-    show::text(b" ");
-    show::decimal(ran.handled as u64);
-    show::text(b" ");
-    show::decimal(ran.accepted as u64);
-    places(numbers, words);
-    show::changes(t, ran.tables);
-    show::text(b" word ");
-    show::hex(cells::load(mem, 81), 16);
-    show::text(b"\n");
+fn left<'a>(
+    rt: &impl Print,
+    t: Tables,
+    ran: Ran,
+    mem: &[u64],
+    numbers: &'a [u8],
+    words: &'a [u64],
+) -> io::Result<()> {
+    print!(rt; "{} {} {}", ran.number, ran.handled, ran.accepted)?;
+    places(rt, numbers, words)?;
+    show::changes(rt, t, ran.tables)?;
+    println!(rt; " word {:016x}", cells::load(mem, 81))
 }
 
-fn run(t: Tables, bytes: &[u8], mem: &mut [u64], numbers: &mut [u8], words: &mut [u64]) {
+fn run(
+    rt: &impl Print,
+    t: Tables,
+    bytes: &[u8],
+    mem: &mut [u64],
+    numbers: &mut [u8],
+    words: &mut [u64],
+) -> io::Result<()> {
     let referee = Referee { tables: t };
     let ran = lists::run(referee, bytes, mem, numbers, words);
-    left(t, ran, mem, numbers, words);
+    left(rt, t, ran, mem, numbers, words)
 }
 
 pub fn bytes_of(bytes: &[u8], n: usize) -> &[u8] {
@@ -95,41 +100,39 @@ fn places_of(places: &mut [u8], n: usize) -> &mut [u8] {
 }
 
 // The list in front of lent parts of these lengths.
-fn cut(t: Tables, bytes: usize, memory: usize, places: usize) {
+fn cut(rt: &impl Print, t: Tables, bytes: usize, memory: usize, places: usize) -> io::Result<()> {
     let all = list();
     let mut mem = [7u64; show::WORDS];
     let mut numbers = [0xeeu8; PLACES];
     let mut words = [0xeeu64; PLACES];
     run(
+        rt,
         t,
         bytes_of(&all, bytes),
         words_of(&mut mem, memory),
         places_of(&mut numbers, places),
         &mut words,
-    );
+    )
 }
 
-pub fn example() {
-    show::text(b"a list of nine, two places more, and a place for each\n");
+pub fn example(rt: &impl Print) -> io::Result<()> {
+    println!(rt; "a list of nine, two places more, and a place for each")?;
     let t = Tables::boot(0xffff, 0);
-    cut(t, BYTES, show::WORDS, PLACES);
-    cut(t, BYTES, show::WORDS, FRAMES);
+    cut(rt, t, BYTES, show::WORDS, PLACES)?;
+    cut(rt, t, BYTES, show::WORDS, FRAMES)
 }
 
 // The list's frames, each decoded by itself.
 fn actions() -> [Action; FRAMES] {
     let bytes = list();
     let mut actions = [Action::decode(&bytes[0..Action::BYTES]); FRAMES];
-    let mut i: usize = 1;
-    while i < FRAMES {
+    for i in 1..FRAMES {
         let at = i * Action::BYTES;
         actions[i] = Action::decode(&bytes[at..at + Action::BYTES]);
-        i += 1;
     }
     actions
 }
 
-// A slice of structs is lent, so this function is proved by hand.
 fn run_decoded(
     t: Tables,
     actions: [Action; FRAMES],
@@ -141,25 +144,25 @@ fn run_decoded(
     lists::run_actions(referee, &actions, mem, numbers, words)
 }
 
-pub fn decoded() {
-    show::text(b"the same, decoded\n");
+pub fn decoded(rt: &impl Print) -> io::Result<()> {
+    println!(rt; "the same, decoded")?;
     let t = Tables::boot(0xffff, 0);
     let mut mem = [7u64; show::WORDS];
     let mut numbers = [0xeeu8; PLACES];
     let mut words = [0xeeu64; PLACES];
     let ran = run_decoded(t, actions(), &mut mem, &mut numbers, &mut words);
-    left(t, ran, &mem, &numbers, &words);
+    left(rt, t, ran, &mem, &numbers, &words)
 }
 
-pub fn refused() {
-    show::text(b"refused whole: a byte less, a word less, a place less, tables out of order\n");
+pub fn refused(rt: &impl Print) -> io::Result<()> {
+    println!(rt; "refused whole: a byte less, a word less, a place less, tables out of order")?;
     let t = Tables::boot(0xffff, 0);
-    cut(t, BYTES - 1, show::WORDS, PLACES);
-    cut(t, BYTES, show::WORDS - 1, PLACES);
-    cut(t, BYTES, show::WORDS, FRAMES - 1);
+    cut(rt, t, BYTES - 1, show::WORDS, PLACES)?;
+    cut(rt, t, BYTES, show::WORDS - 1, PLACES)?;
+    cut(rt, t, BYTES, show::WORDS, FRAMES - 1)?;
     let mut odd = t;
     let mut running = odd.running;
     running[0] = 9;
     odd.running = running;
-    cut(odd, BYTES, show::WORDS, PLACES);
+    cut(rt, odd, BYTES, show::WORDS, PLACES)
 }

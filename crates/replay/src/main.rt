@@ -1,6 +1,6 @@
 // The replay program: a log on standard input, its answers on standard output.
 #![tactic(auto)]
 
-fn main() {
-    stream::replay(libc::STDIN_FILENO, libc::STDOUT_FILENO);
+fn main(rt: HostRuntime) {
+    stream::replay(&rt, &mut rt.stdin(), &mut rt.stdout());
 }

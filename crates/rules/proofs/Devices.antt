@@ -39,26 +39,26 @@ module _ {m : Tables} (h : Wf m) (ws : List ℕ) (lw : length ws ≡ memory_word
   entry = effective_entry Iommu (view m ws) u g (page_of a)
 
   -- and the word of memory that it leads to
-  abbrev pub device-word : ℕ
-  device-word = word_of (page_in entry) (offset_of a)
+  abbrev pub device_word : ℕ
+  device_word = word_of (page_in entry) (offset_of a)
 
-  abbrev pub device-reaches : Type 0
-  device-reaches = (is_present m g ≡ true) × (u < units) × (live W entry ≡ true)
+  abbrev pub DeviceReaches : Type 0
+  DeviceReaches = (is_present m g ≡ true) × (u < units) × (live W entry ≡ true)
 
-  pub device-read : accepted (refusals m (Read Iommu g u a)) ≡ true ↔ (device-reaches × (readable entry ≡ true))
+  pub device-read : accepted (refusals m (Read Iommu g u a)) ≡ true ↔ (DeviceReaches × (readable entry ≡ true))
   device-read = (
     λ q. let z = (reads-when h ws lw Iommu g u a).0 q in ((z.0.0, z.0.2, z.0.3), z.1),
     λ q. (reads-when h ws lw Iommu g u a).1 ((q.0.0, refl, q.0.1, q.0.2), q.1),
   )
 
-  pub device-write : (w : ℕ) → accepted (refusals m (Write Iommu g u a w)) ≡ true ↔ (device-reaches × (writable entry ≡ true))
+  pub device-write : (w : ℕ) → accepted (refusals m (Write Iommu g u a w)) ≡ true ↔ (DeviceReaches × (writable entry ≡ true))
   device-write w = (
     λ q. let z = (writes-when h ws lw Iommu g u a w).0 q in ((z.0.0, z.0.2, z.0.3), z.1),
     λ q. (writes-when h ws lw Iommu g u a w).1 ((q.0.0, refl, q.0.1, q.0.2), q.1),
   )
 
   -- the word that an access finds is that one
-  lands : (off g guests or off u units or off a guest_words) ≡ false → nothing (seen Iommu m g u a) ≡ false → word_at (seen Iommu m g u a) a ≡ device-word
+  lands : (off g guests or off u units or off a guest_words) ≡ false → nothing (seen Iommu m g u a) ≡ false → word_at (seen Iommu m g u a) a ≡ device_word
   lands r n =
       let e = Rattle.tables.specs.State.effective_entry m.io_map m.io_tlb u g (page_of a) in
       word-at-is e a (isnt-false _ (sym (nothing_is e) ∙ n))
@@ -66,13 +66,13 @@ module _ {m : Tables} (h : Wf m) (ws : List ℕ) (lw : length ws ≡ memory_word
 
   -- what it then does
   pub device-reads : accepted (refusals m (Read Iommu g u a)) ≡ true →
-      acted m (Read Iommu g u a) ws ≡ record { seen = record { number = 0; word = get_or ws device-word 0 }; tables = m; memory = ws }
+      acted m (Read Iommu g u a) ws ≡ record { seen = record { number = 0; word = get_or ws device_word 0 }; tables = m; memory = ws }
   device-reads q =
       let c = accepted-clear m (Read Iommu g u a) q in
       when-accepted m (Read Iommu g u a) ws q ∙ ap (λ (n : ℕ). record { seen = record { number = 0; word = get_or ws n 0 }; tables = m; memory = ws }) (lands (c 4) (c 9))
 
   pub device-writes : (w : ℕ) → accepted (refusals m (Write Iommu g u a w)) ≡ true →
-      acted m (Write Iommu g u a w) ws ≡ record { seen = record { number = 0; word = 0 }; tables = m; memory = set ws device-word w }
+      acted m (Write Iommu g u a w) ws ≡ record { seen = record { number = 0; word = 0 }; tables = m; memory = set ws device_word w }
   device-writes w q =
       let c = accepted-clear m (Write Iommu g u a w) q in
       when-accepted m (Write Iommu g u a w) ws q ∙ ap (λ (n : ℕ). record { seen = record { number = 0; word = 0 }; tables = m; memory = set ws n w }) (lands (c 4) (c 9))

@@ -10,7 +10,7 @@ use Rattle.numbers.specs.declared.frames.Action.{Action}
 use Rattle.tables.specs.Wf.{wf}
 use Rattle.tables.specs.declared.state.Tables.{Tables}
 use Rattle.tables.specs.declared.state.Side.TheVariants.{Cpu, Iommu}
-use Rattle.rules.specs.Actions.{Op, refusals, accepted, Outcome, outcome}
+use Rattle.rules.specs.Actions.{Op, refusals, Outcome, outcome}
 use Rattle.rules.specs.Actions.Op.{Read, Write, HyperCall, AddVm, RemoveVm, AssignPage, ReclaimPage, SharePage, UnsharePage, Map, Unmap, ContextSwitch, Idle, Fill, Drop, IommuAssignPage, IommuReclaimPage}
 
 -- ══ the kind chooses the rule ══

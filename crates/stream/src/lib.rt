@@ -1,11 +1,11 @@
-// A log from one descriptor, its answers to another. What a line means is not known here.
+// A log from a reader, its answers to a writer. What a line means is not known here.
 #![tactic(auto)]
 
-ghost use Rattle.std.specs.Prelude.{◌≡◌, length};
-ghost use Rattle.io.specs.Counts.{IsPrefixLen};
+ghost use Rattle.std.specs.Prelude.{◌≡◌, ◌≤◌, length};
 
 use calls::referee::Referee;
 use lines::replay::{Fed, Replay};
+use std::io::{Read, Write};
 use text::answers;
 
 // How many bytes are read at a time, and room for the answers if each of them ends a line.
@@ -26,15 +26,16 @@ fn room() -> [u8; ROOM]
     [0; ROOM]
 }
 
-fn say(text: &[u8]) {
-    io::write_all(libc::STDERR_FILENO, text);
+// There is nowhere to say that this could not be said.
+fn say(rt: &impl Eprint, text: &str) {
+    let _ = rt.eprintln(text);
 }
 
 // Bytes are a piece of the log, and no bytes are its end.
 fn answer(log: Replay, bytes: &[u8], mem: &mut [u64], out: &mut [u8]) -> Fed
-    ensures { IsPrefixLen result.written out.new }
+    ensures { result.written ≤ length out.new }
 {
-    if bytes.len() == 0 {
+    if bytes.is_empty() {
         return log.end(bytes, mem, out);
     }
     log.feed(bytes, mem, out)
@@ -42,49 +43,45 @@ fn answer(log: Replay, bytes: &[u8], mem: &mut [u64], out: &mut [u8]) -> Fed
 
 // Reads once, and writes the answers to what came. Nothing more comes after the end of the log, nor after a read or a write that failed:
 // a log that could not be read to its end is not closed.
-fn turn(
-    from: i32,
-    to: i32,
+fn turn<R: Read, W: Write>(
+    rt: &impl Eprint,
+    from: &mut R,
+    to: &mut W,
     log: Replay,
     bytes: &mut [u8],
     mem: &mut [u64],
     out: &mut [u8],
 ) -> Left {
-    let got = libc::read(from, bytes);
-    if got < 0 {
-        say(b"replay: the log could not be read\n");
+    let Ok(n) = from.read(bytes) else {
+        say(rt, "replay: the log could not be read");
         return Left { more: false, log };
-    }
-    let n = io::count(got, bytes);
+    };
     let fed = answer(log, &bytes[..n], mem, out);
-    let written = fed.written;
     let log = fed.replay;
     // not of a log from its start, with this much room: `never-refused` in crate `logs`
     if fed.number != 0 {
-        say(b"replay: a piece of the log was refused\n");
+        say(rt, "replay: a piece of the log was refused");
         return Left { more: false, log };
     }
-    let sent = io::write_all(to, &out[..written]);
+    let sent = to.write_all(&out[..fed.written]).is_ok();
     if !sent {
-        say(b"replay: the answers could not be written\n");
+        say(rt, "replay: the answers could not be written");
     }
     let more = sent & (n != 0);
     Left { more, log }
 }
 
-// A whole log. A proved loop has to end, and nothing says that a log does: so turns are counted down, from a number that no run uses up.
-pub fn replay(from: i32, to: i32) {
+// A whole log. A proved loop has to end, and nothing says that a log does: so turns are counted, up to a number that no run comes to.
+pub fn replay<R: Read, W: Write>(rt: &impl Eprint, from: &mut R, to: &mut W) {
     let mut mem = [0u64; Referee::WORDS];
-    let mut bytes = io::large_buffer();
+    let mut bytes = [0u8; BYTES];
     let mut out = room();
     let mut log = Replay::start();
-    let mut turns = u64::MAX;
-    while 0 < turns {
-        let left = turn(from, to, log, &mut bytes, &mut mem, &mut out);
+    for _ in 0..u64::MAX {
+        let left = turn(rt, from, to, log, &mut bytes, &mut mem, &mut out);
         if !left.more {
             break;
         }
         log = left.log;
-        turns -= 1;
     }
 }

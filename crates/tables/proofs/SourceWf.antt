@@ -14,7 +14,7 @@ use Rattle.tables.specs.Table.{live, find, has}
 use Rattle.tables.specs.Wants.{W, has_key, shared_by}
 use Rattle.tables.specs.State.{hypervisor, guest, is_present, map_of, tlb_of, may_reach}
 use Rattle.tables.specs.Wf.{Wf, PairWf, MapRowWf}
-use Rattle.tables.specs.Views.{SourceWf, view, entry_at, Entitled, InS2Map, InTlb}
+use Rattle.tables.specs.Views.{SourceWf, view, entry_at, InS2Map, InTlb}
 use Rattle.tables.specs.declared.state.Tables.{Tables}
 use Rattle.tables.specs.declared.state.Side.{Side}
 use Rattle.tables.proofs.TableLaws.{find-passes, each-find}

@@ -15,7 +15,7 @@ use Rattle.numbers.specs.Tests.{◌and◌, isnt}
 use Rattle.numbers.proofs.Bools.{split, clash, not-true, not-false, bool-ext, and_l, and_r, and_i, and-no-l, and-no-r, isnt-true, isnt-i, isnt-no, implies, implied}
 use Rattle.numbers.proofs.SearchLaws.{first-hit, first-skip, first_passes, first-lowest}
 use Rattle.tables.specs.Table.{Shape, all, live, hit, find, has, full, no_room, place, seat, put, cleared, wipe, Each, each, Uniq, uniq}
-use Rattle.tables.specs.Steps.{wipe-from}
+use Rattle.tables.specs.Steps.{wipe_from}
 
 -- To stand under one key is an equivalence.
 pub record Same {A : Type 0} (s : A → A → Bool) : Type 0 where
@@ -220,27 +220,27 @@ module _ {A : Type 0} (K : Shape A) where
       (λ h. rw (h, seat-free k t h))
 
   -- ── rows removed from a place on ──
-  pub wipe-from-first : (k : A → Bool) (t : List A) → wipe-from K k (first (hit K k) t) t ≡ wipe K k t
-  unfolding wipe-from wipe first
-  wipe-from-first k [] = refl
-  wipe-from-first k (x ∷ t) = split (hit K k x)
+  pub wipe_from-first : (k : A → Bool) (t : List A) → wipe_from K k (first (hit K k) t) t ≡ wipe K k t
+  unfolding wipe_from wipe first
+  wipe_from-first k [] = refl
+  wipe_from-first k (x ∷ t) = split (hit K k x)
       (λ e. rw (first-hit (hit K k) x t e))
-      (λ e. rw e (ap {B = List A} (λ r. x ∷ r) (wipe-from-first k t)))
+      (λ e. rw e (ap {B = List A} (λ r. x ∷ r) (wipe_from-first k t)))
 
   -- what a loop that frees from the front has left to do
-  wipe-next : (k : A → Bool) (t : List A) (i : ℕ) (d : A) → i < length t → wipe-from K k (suc i) (set t i (cleared K k (get_or t i d))) ≡ wipe-from K k i t
-  unfolding wipe-from wipe
+  wipe-next : (k : A → Bool) (t : List A) (i : ℕ) (d : A) → i < length t → wipe_from K k (suc i) (set t i (cleared K k (get_or t i d))) ≡ wipe_from K k i t
+  unfolding wipe_from wipe
   wipe-next k [] i d h = absurd (omega arith)
   wipe-next k (x ∷ t) zero d h = refl
   wipe-next k (x ∷ t) (suc i) d h = ap {B = List A} (λ r. x ∷ r) (wipe-next k t i d (omega arith))
 
-  pub wipe-from-more : (k : A → Bool) (t : List A) (i : ℕ) (d v : A) → i < length t → v ≡ cleared K k (get_or t i d) →
-      wipe-from K k (i + 1) (set t i v) ≡ wipe-from K k i t
-  wipe-from-more k t i d v h e = rw (add-one, e) (wipe-next k t i d h)
+  pub wipe_from-more : (k : A → Bool) (t : List A) (i : ℕ) (d v : A) → i < length t → v ≡ cleared K k (get_or t i d) →
+      wipe_from K k (i + 1) (set t i v) ≡ wipe_from K k i t
+  wipe_from-more k t i d v h e = rw (add-one, e) (wipe-next k t i d h)
 
-  pub wipe-from-end : (k : A → Bool) (t : List A) (i : ℕ) → length t ≤ i → wipe-from K k i t ≡ t
-  unfolding wipe-from wipe
-  wipe-from-end k t i h = rw (take_all i t h, drop_of_length-le t h) (append-nil t)
+  pub wipe_from-end : (k : A → Bool) (t : List A) (i : ℕ) → length t ≤ i → wipe_from K k i t ≡ t
+  unfolding wipe_from wipe
+  wipe_from-end k t i h = rw (take_all i t h, drop_of_length-le t h) (append-nil t)
 
   module _ (dead : K.free K.zero ≡ true) where
     -- a lookup finds a live row exactly where there is one

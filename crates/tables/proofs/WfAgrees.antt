@@ -62,11 +62,11 @@ everywhere : (n : ℕ) (f : ℕ → Bool) → ((i : ℕ) → n ≤ i → f i ≡
 everywhere n f past e i = split (ltb i n) (λ t. upto-at n f e i (ltb-true i n t)) (λ t. past i (ltb-false i n t))
 
 module _ (m : Tables) (s : Sized m) where
-  page-wf : Type 0
-  page-wf = (p : ℕ) → PageWf m.present (holder_of m p) (dma_of m p) (in_region m p)
+  PagesWf : Type 0
+  PagesWf = (p : ℕ) → PageWf m.present (holder_of m p) (dma_of m p) (in_region m p)
 
-  pages-agree : pages_ok m.present m.holder m.dma m.region ≡ true ↔ page-wf
-  unfolding pages_ok page-wf
+  pages-agree : pages_ok m.present m.holder m.dma m.region ≡ true ↔ PagesWf
+  unfolding pages_ok PagesWf
   pages-agree = (
     λ e p. (page-agrees _ _ _ _).0 (everywhere pages (λ q. page_ok m.present (holder_of m q) (dma_of m q) (in_region m q)) past e p),
     λ h. upto-i pages _ (λ p l. (page-agrees _ _ _ _).1 (h p)),
@@ -91,7 +91,7 @@ module _ (m : Tables) (s : Sized m) where
 
 -- ── the whole ──
 pub wf-sound : (m : Tables) → wf m ≡ true → Wf m
-unfolding wf in_order page-wf
+unfolding wf in_order PagesWf
 wf-sound m e =
     let s = (sized-agrees m).0 (and_l _ _ e) in let e₀ = and_r _ _ e in let e₁ = and_r _ _ e₀ in let e₂ = and_r _ _ e₁ in
     let e₃ = and_r _ _ e₂ in let e₄ = and_r _ _ e₃ in
@@ -105,7 +105,7 @@ wf-sound m e =
     }
 
 pub wf-complete : (m : Tables) → Wf m → wf m ≡ true
-unfolding wf in_order page-wf
+unfolding wf in_order PagesWf
 wf-complete m h =
     and_i ((sized-agrees m).1 h.sizes)
     (and_i ((pages-agree m h.sizes).1 h.pages_wf)

@@ -4,5 +4,5 @@ use Rattle.tables.specs.Table.{Shape, wipe}
 
 module _ {A : Type 0} (K : Shape A) where
   -- every hit from place n on is removed
-  unfoldable pub wipe-from : (A → Bool) → ℕ → List A → List A
-  wipe-from k n t = take n t ++ wipe K k (drop n t)
+  unfoldable pub wipe_from : (A → Bool) → ℕ → List A → List A
+  wipe_from k n t = take n t ++ wipe K k (drop n t)

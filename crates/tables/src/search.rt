@@ -1,7 +1,7 @@
 // Tables of words, lent as slices of any length: one search, and what stands on it. A free place is 0.
 ghost use Rattle.std.specs.Prelude.{◌≡◌, set};
 ghost use Rattle.numbers.specs.Search.{first};
-ghost use Rattle.tables.specs.Steps.{wipe-from};
+ghost use Rattle.tables.specs.Steps.{wipe_from};
 ghost use Rattle.tables.specs.Table.{hit, find, has, seat, cleared};
 ghost use Rattle.tables.specs.Wants.{W, has_key, ends_at, joins, meets, invalidated};
 
@@ -143,7 +143,7 @@ fn cleared(word: u32, want: Want) -> u32
 
 // Every row from place `from` on that is looked for is freed.
 pub fn wipe_from(rows: &mut [u32], from: usize, want: Want)
-    ensures { rows.new ≡ wipe-from W (meets want) from rows.old }
+    ensures { rows.new ≡ wipe_from W (meets want) from rows.old }
 {
     let mut i = from;
     while i < rows.len() {

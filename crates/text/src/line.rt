@@ -8,7 +8,7 @@ ghost use Rattle.text.specs.Walks.{heard, pushed, added};
 use crate::input;
 use crate::input::Heard;
 
-#[derive(Drop)]
+#[derive(Clone, Copy)]
 pub struct Line {
     // how many bytes of it are kept
     pub count: usize,

@@ -1,27 +1,23 @@
 // Logs by name, one after the other: the name of each, then its answers as the replay program gives them.
 #![tactic(auto)]
 
-use libc::STDOUT_FILENO;
+use std::fs::File;
+use std::{env, io};
 
-fn one(name: &[u8]) {
-    let fd = os::open_read(name);
-    if fd < 0 {
-        os::fail(name);
-        return;
+fn one(rt: &HostRuntime, name: &str) -> io::Result<()> {
+    match File::open(rt, name) {
+        Ok(mut log) => {
+            println!(rt; "{name}")?;
+            stream::replay(rt, &mut log, &mut rt.stdout());
+        }
+        Err(e) => eprintln!(rt; "{name}: {e}")?,
     }
-    io::write_all(STDOUT_FILENO, name);
-    io::write_all(STDOUT_FILENO, b"\n");
-    stream::replay(fd, STDOUT_FILENO);
-    libc::close(fd);
+    Ok(())
 }
 
-fn main() {
-    let mut name = io::buffer();
-    let n = os::arg_count();
-    let mut i: usize = 1;
-    while i < n {
-        let long = os::arg(i, &mut name);
-        one(&name[..long]);
-        i += 1;
+fn main(rt: HostRuntime) -> io::Result<()> {
+    for name in env::args(&rt)?.skip(1) {
+        one(&rt, name.as_str())?;
     }
+    Ok(())
 }

@@ -1,8 +1,6 @@
 -- `lists::each_frame` meets its contract.
-use Rattle.lists.specs.Lists.{ended, handled}
 use Rattle.lists.proofs.ListLaws.{handled-still, went-none, went-more, frame_is, along, fewer, one-fits}
 use mathlib.Core.Path.{◌≡◌, sym, ◌∙◌}
-use mathlib.Core.Logic.{⊎_elim}
 use native.Mathlib.Omega.{arith}
 use lib.Dec.{eqb}
 use Rattle.numbers.specs.Sizes.{frame_bytes}

@@ -1,10 +1,9 @@
 -- `lists::run_actions` meets its contract.
-use mathlib.Core.Path.{◌≡◌, sym, ◌∙◌}
+use mathlib.Core.Path.{◌≡◌}
 use native.Mathlib.Omega.{arith}
 use lib.ListN.{length}
 use Prim.Native.Nat.{◌≤◌, ◌<◌}
 use Rattle.rules.specs.Calls.{action_at, run_actions}
-use Rattle.lists.specs.Lists.{handled}
 use Rattle.lists.proofs.ListLaws.{went-none, went-more, along, fewer, none-accepted, handled-le, listed-is}
 use Rattle.lists.proofs.run_actions.Goals as goal
 

@@ -14,8 +14,8 @@ pub loop-i-preserved : goal.loop-i-preserved
 unfolding feed
 loop-i-preserved c = let so_far = c.loop-i.invariant.2 in
     elim c.if-bytes-i-eq-FEED.branch [
-      then-bytes-i-eq-FEED w ↦ (search rules, rw w.n-is (omega arith), rw w.n-is (feeds-one _ _ _ c.loop-i-test.true so_far w.if-bytes-i-eq-FEED.true))
-    | else-bytes-i-eq-FEED w ↦ (search rules, rw w.n-is (omega arith), rw w.n-is (feeds-other _ _ _ c.loop-i-test.true so_far w.if-bytes-i-eq-FEED.false))
+      | then-bytes-i-eq-FEED w ↦ (search rules, rw w.n-is (omega arith), rw w.n-is (feeds-one _ _ _ c.loop-i-test.true so_far w.if-bytes-i-eq-FEED.true))
+      | else-bytes-i-eq-FEED w ↦ (search rules, rw w.n-is (omega arith), rw w.n-is (feeds-other _ _ _ c.loop-i-test.true so_far w.if-bytes-i-eq-FEED.false))
     ]
 
 pub returns : goal.returns

@@ -1,7 +1,6 @@
 -- `calls::referee::Referee::step` meets its contract.
 use mathlib.Core.Path.{◌≡◌, refl}
 use mathlib.Core.Bool.{false}
-use mathlib.Core.Logic.{⊎_elim}
 use Prim.Native.Nat.{ℕ}
 use native.Mathlib.Omega.{arith}
 use mathlib.Core.List.{List}
