@@ -1,7 +1,7 @@
 // A log from a reader, its answers to a writer. What a line means is not known here.
 #![tactic(auto)]
 
-ghost use Rattle.std.specs.Prelude.{◌≡◌, ◌≤◌, length};
+ghost use Rattle.std.specs.Prelude.{◌≡◌, ◌≤◌, length, take};
 
 use calls::referee::Referee;
 use lines::replay::{Fed, Replay};
@@ -33,7 +33,7 @@ fn say(rt: &impl Eprint, text: &str) {
 
 // Bytes are a piece of the log, and no bytes are its end.
 fn answer(log: Replay, bytes: &[u8], mem: &mut [u64], out: &mut [u8]) -> Fed
-    ensures { result.written ≤ length out.new }
+    ensures { (result.written ≤ length out.new) × (result.written ≡ length (take result.written out.new)) }
 {
     if bytes.is_empty() {
         return log.end(bytes, mem, out);

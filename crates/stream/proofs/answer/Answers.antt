@@ -3,7 +3,7 @@ use Rattle.lines.proofs.Going.{written-counts}
 use Rattle.stream.proofs.answer.Goals as goal
 
 pub returns-then-is_empty : goal.returns-then-is_empty
-returns-then-is_empty c = (written-counts _ _ _ _ _ c.end.ensures).0
+returns-then-is_empty c = written-counts _ _ _ _ _ c.end.ensures
 
 pub returns : goal.returns
-returns c = (written-counts _ _ _ _ _ c.feed.ensures).0
+returns c = written-counts _ _ _ _ _ c.feed.ensures
