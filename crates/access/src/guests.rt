@@ -15,7 +15,7 @@ use tables::state;
 use tables::state::{Found, Side};
 
 // Who asks, on which unit, for which word address.
-#[derive(Drop)]
+#[derive(Clone, Copy)]
 pub struct Ask {
     pub guest: u8,
     pub unit: u8,
@@ -23,7 +23,7 @@ pub struct Ask {
 }
 
 // The word of memory that an access leads to, where its number is 0.
-#[derive(Drop)]
+#[derive(Clone, Copy)]
 pub struct Target {
     pub number: u8,
     pub at: usize,

@@ -16,7 +16,7 @@ use tables::state::Tables;
 use walks::Walks;
 
 // An `impl` for another crate's type is refused: the methods here have a struct of their own around the tables.
-#[derive(Drop)]
+#[derive(Clone, Copy)]
 pub struct Referee {
     pub tables: Tables,
 }

@@ -5,7 +5,7 @@ ghost use Rattle.numbers.specs.Answers.{wordless};
 use numbers::answers::Seen;
 use tables::state::Tables;
 
-#[derive(Drop)]
+#[derive(Clone, Copy)]
 pub struct Out {
     pub seen: Seen,
     pub tables: Tables,

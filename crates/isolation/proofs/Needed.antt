@@ -141,7 +141,7 @@ asked =
     ∷ matters dma_asks_nobody dma_asks (λ mapping w. outcomes (holding w) (mapping ∷ dma_reads)) (11 ∷ 9 ∷ [])
     ∷ []
 
--- ══ well_formed tables, and the rules that keep them so ══
+-- ══ well-formed tables, and the rules that keep them so ══
 -- The wrong step comes before the start of the runs: it leaves tables that are not well formed. From there on every step is right, no
 -- page is shared, and the runs differ only in the word that guest 1 writes into its marked page.
 --

@@ -43,7 +43,7 @@ use Rattle.isolation.proofs.Confined.{lemma_state_read_confined, lemma_state_dma
 use Rattle.isolation.proofs.Environment.{action-clear, guest-keeps-reads, env-tables, env-private, lemma_write_isolation}
 
 -- ── good order along runs ──
--- every state of the source that is as `init` says is in good order: nothing is there that a clause could speak of. Its region may be any
+-- every state of the source that is as the source's `init` says is in good order: nothing is there that a clause could speak of. Its region may be any
 pub lemma_init_wf : (s : MachineState) → InitEmpty s → SourceWf s
 lemma_init_wf s i = record {
   ownership_1 = λ g p t. absurd (unowned g p t);

@@ -29,7 +29,7 @@ pub struct Replay {
 }
 
 // What a piece comes to: its number, how many bytes of answers were written, where the log then stands.
-#[derive(Drop)]
+#[derive(Clone, Copy)]
 pub struct Fed {
     pub number: u8,
     pub written: usize,

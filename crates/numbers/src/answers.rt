@@ -2,7 +2,7 @@
 ghost use Rattle.std.specs.Prelude.{◌≡◌};
 ghost use Rattle.numbers.specs.Answers.{wordless};
 
-#[derive(Drop)]
+#[derive(Clone, Copy)]
 pub struct Seen {
     // 0, or why it was refused
     pub number: u8,

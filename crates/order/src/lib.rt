@@ -24,7 +24,7 @@ fn in_order<'a>(
     running: &'a [u8],
 ) -> bool
     ensures { result ≡ in_order (record {
-      map = map.entry.now;
+      map = map.now;
       tlb = tlb.now;
       io_map = io_map.now;
       io_tlb = io_tlb.now;

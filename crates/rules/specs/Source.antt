@@ -1,5 +1,5 @@
--- The source's steps (step.rs), each predicate under its own name and clause by clause, over the source's state as it is read off
--- these tables (`Views` of crate `tables`). A step is what it asks of the state before (its guards) and what it says of the state
+-- The source's steps (step.rs), each predicate under its own name, in camel case, and clause by clause, over the source's state as it is
+-- read off these tables (`Views` of crate `tables`). A step is what it asks of the state before (its guards) and what it says of the state
 -- after (its effects). Left out of every step: `s2.wf()`, which here follows from the guards (`wf-kept`). Left out of the two steps
 -- that give a page away: `same_memory_as`, which cannot hold where the page is wiped; what memory then is stands in its place. One
 -- map stands for the software's and the hardware's, so that a clause on `hw_s2map` is its neighbour on `s2_map`.

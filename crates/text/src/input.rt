@@ -14,7 +14,7 @@ pub const DIGITS: usize = 2 * Action::BYTES;
 const NONE: u8 = 16;
 
 // What a line says: the bytes of a frame, or nothing.
-#[derive(Drop)]
+#[derive(Clone, Copy)]
 pub struct Heard {
     pub good: bool,
     pub bytes: [u8; Action::BYTES],

@@ -7,7 +7,7 @@ use tables::state::Tables;
 mod accesses;
 mod maps;
 
-#[derive(Drop)]
+#[derive(Clone, Copy)]
 pub struct Walks {
     pub tables: Tables,
 }
