@@ -12,7 +12,7 @@ use Rattle.numbers.specs.Rules.{least}
 use Rattle.numbers.specs.Search.{first, upto}
 use Rattle.numbers.specs.Frames.{big, kinds, row_of, stray, beyond, frame_rules, frame_number}
 use Rattle.numbers.specs.declared.frames.Action.{Action}
-use Rattle.numbers.proofs.Bools.{split, not-true, and_l, and_r, or_no, isnt-false}
+use Rattle.numbers.proofs.Bools.{split, not-true, and_l, and_r, or_no, isnt-true, isnt-false}
 use Rattle.numbers.proofs.RulesLaws.{Applies, rising, least-lowest}
 use Rattle.numbers.proofs.SearchLaws.{upto-at}
 
@@ -49,6 +49,14 @@ checked a = split (eqb (row_of a.kind) 0)
 pub frame-lowest : (a : Action) (n : ℕ) → Applies n (frame_rules a) → (0 < frame_number a) × (frame_number a ≤ n)
 unfolding frame_number rising ◌and◌
 frame-lowest a n h = least-lowest 3 (frame_rules a) refl h
+
+-- ── no row is 0, so that 0 can stand for none ──
+live-row : ℕ → Bool
+live-row i = isnt (eqb (get_or kinds i 0) 0)
+
+pub no_row_is-0 : (i : ℕ) → i < 23 → eqb (get_or kinds i 0) 0 ≡ false
+unfolding live-row upto kinds ◌and◌ isnt
+no_row_is-0 i h = isnt-true _ (upto-at 23 live-row refl i h)
 
 -- ── the table's rule: a kind has a row exactly when it is one of 01..05, 10..1b, 20..25 ──
 within : ℕ → ℕ → ℕ → Bool

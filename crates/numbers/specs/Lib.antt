@@ -4,5 +4,6 @@ pub mod Rules
 pub mod Search
 pub mod Addresses
 pub mod Entries
+pub mod Refusals
 pub mod Answers
 pub mod Frames

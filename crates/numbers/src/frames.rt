@@ -1,6 +1,10 @@
 // A frame of 16 bytes as an action by value; which fields each kind uses; refusals 3 and 4.
-ghost use Rattle.std.specs.Prelude.{◌≡◌, cond, ◌<◌, get_or};
+ghost use Rattle.std.specs.Prelude.{◌≡◌, ◌<◌, true, false, eqb, IfSome, IfNone};
 ghost use Rattle.numbers.specs.Frames.{big, decode, row_of, stray, beyond, frame_number};
+ghost use Rattle.numbers.specs.Refusals.{numbered};
+
+use crate::cells;
+use crate::refusals::Refusal;
 
 #[derive(Clone, Copy)]
 pub struct Action {
@@ -64,19 +68,12 @@ const KINDS: [u16; ROWS] = [
     0x25 * KIND + GUEST + UNIT + GPAGE, // IommuDrop
 ];
 
-// The byte at a place, and 0 past the end.
-pub fn byte(bytes: &[u8], at: usize) -> u8
-    ensures { result ≡ get_or bytes.now at 0 }
-{
-    if at < bytes.len() { bytes[at] } else { 0 }
-}
-
 // Two bytes, highest first.
 fn two(bytes: &[u8], at: u16) -> u16
     ensures { result ≡ big 2 bytes.now at }
 {
     let i = at as usize;
-    (byte(bytes, i) as u16) * 256 + (byte(bytes, i + 1) as u16)
+    (cells::get_or(bytes, i, 0) as u16) * 256 + (cells::get_or(bytes, i + 1, 0) as u16)
 }
 
 // A word: eight bytes, highest first. A frame has one at its end; the boot line is two.
@@ -91,26 +88,17 @@ pub fn word(bytes: &[u8], at: u8) -> u64
     ((a * 65536 + b) * 65536 + c) * 65536 + d
 }
 
-// The row of a kind, or 0 where the kind is unknown.
-fn row_of(kind: u8) -> u16
-    ensures { result ≡ row_of kind }
+// The row of a kind, where it is known.
+fn row_of(kind: u8) -> Option<u16>
+    ensures some { IfSome result (λ row. (row ≡ row_of kind) × (eqb (row_of kind) 0 ≡ false)) }
+    ensures none { IfNone result (eqb (row_of kind) 0 ≡ true) }
 {
-    let mut i: usize = 0;
-    while i < ROWS {
-        let row = KINDS[i];
-        if (kind as u16) == row / KIND {
-            return row;
+    for row in &KINDS {
+        if (kind as u16) == *row / KIND {
+            return Some(*row);
         }
-        i += 1;
     }
-    0
-}
-
-// A refusal's number where its condition holds, else what the later ones say.
-pub fn rule(bad: bool, number: u8, later: u8) -> u8
-    ensures { result ≡ cond bad number later }
-{
-    if bad { number } else { later }
+    None
 }
 
 impl Action {
@@ -134,10 +122,10 @@ impl Action {
     pub fn decode(bytes: &[u8]) -> Action
         ensures { result ≡ decode bytes.now }
     {
-        let kind = byte(bytes, 0);
-        let guest = byte(bytes, 1);
-        let second = byte(bytes, 2);
-        let access = byte(bytes, 3);
+        let kind = cells::get_or(bytes, 0, 0);
+        let guest = cells::get_or(bytes, 1, 0);
+        let second = cells::get_or(bytes, 2, 0);
+        let access = cells::get_or(bytes, 3, 0);
         let address = two(bytes, 4);
         let page = two(bytes, 6);
         let word = word(bytes, 8);
@@ -178,13 +166,15 @@ impl Action {
                                 | ((row / PAGE % 2 == 1) & (Action::PAGES <= self.page)))))))
     }
 
-    // The frame check: 3 for an unknown kind or an unused field that is not zero, 4 for a number out of range, else 0.
-    pub fn number(self) -> u8
-        ensures { result ≡ frame_number self }
+    // The frame check: an unknown kind and an unused field that is not zero are no frame; then numbers out of range.
+    #[tactic(auto, unfolding(crate::specs::Frames::frame_number, crate::specs::Rules::least))]
+    pub fn check(self) -> Result<(), Refusal>
+        ensures { numbered result ≡ frame_number self }
     {
-        let row = row_of(self.kind);
-        let stray = self.stray(row);
-        let beyond = self.beyond(row);
-        rule(row == 0, 3, rule(stray, 3, rule(beyond, 4, 0)))
+        let Some(row) = row_of(self.kind) else {
+            return Err(Refusal::NotAFrame);
+        };
+        Refusal::NotAFrame.when(self.stray(row))?;
+        Refusal::OutOfRange.when(self.beyond(row))
     }
 }

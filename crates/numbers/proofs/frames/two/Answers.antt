@@ -6,4 +6,4 @@ use Rattle.numbers.proofs.frames.two.Goals as goal
 
 pub returns : goal.returns
 unfolding big
-returns c = rw (c.byte.ensures, c.byte-2.ensures, add-zero) (omega arith)
+returns c = rw (c.get_or.ensures, c.get_or-2.ensures, add-zero) (omega arith)
