@@ -7,9 +7,11 @@ use native.Mathlib.Nat.{zero-add, add-zero, suc-add, add-suc}
 use native.Mathlib.Numerals.{add-one}
 use native.Mathlib.Omega.{arith}
 use lib.Dec.{eqb}
-use borrow.Author.Tests.{eqb-true, eqb-false}
+use borrow.Author.Tests.{eqb-true, eqb-false, ltb-true, ltb-false}
 use lib.ListN.{length, get_or, drop, drop_of_length-le}
 use lib.Seq.{drop-cons}
+use Rattle.std.specs.Prelude.{Option, IfSome, IfNone, is_some, ltb}
+use Rattle.std.specs.List.{position, position_or_len}
 use Rattle.numbers.specs.Search.{first, upto}
 use Rattle.numbers.proofs.Bools.{split, clash, not-true, and_l, and_r, and_i}
 
@@ -46,6 +48,28 @@ module _ {A : Type 0} where
   first-lowest p (x ∷ t) d (suc i) h e = split (p x)
       (λ q. rw q (omega arith))
       (λ q. rw q (let l : first p t ≤ i = first-lowest p t d i (omega arith) e in omega arith))
+
+  -- ── the library's search is this one ──
+  pub position_or_len-first : (p : A → Bool) (t : List A) → position_or_len p t ≡ first p t
+  unfolding first
+  position_or_len-first p [] = refl
+  position_or_len-first p (x ∷ t) = split (p x)
+      (λ e. rw e refl)
+      (λ e. rw e (let h : position_or_len p t ≡ first p t = position_or_len-first p t in omega arith))
+
+  -- a place that was found, and one past the end that was not
+  pub position-some : (p : A → Bool) (t : List A) {r : Option ℕ} → r ≡ position p t → IfSome r (λ i. (i ≡ first p t) × (i < length t))
+  position-some p t e = rw (e, position_or_len-first p t) (split (ltb (first p t) (length t))
+      (λ h. rw h (refl, ltb-true _ _ h))
+      (λ h. rw h tt))
+
+  pub position-none : (p : A → Bool) (t : List A) {r : Option ℕ} → r ≡ position p t → IfNone r (length t ≤ first p t)
+  position-none p t e = rw (e, position_or_len-first p t) (split (ltb (first p t) (length t))
+      (λ h. rw h tt)
+      (λ h. rw h (ltb-false _ _ h)))
+
+  pub position-is_some : (p : A → Bool) (t : List A) {r : Option ℕ} → r ≡ position p t → is_some r ≡ ltb (first p t) (length t)
+  position-is_some p t e = rw (e, position_or_len-first p t) (split (ltb (first p t) (length t)) (λ h. rw h) (λ h. rw h))
 
   -- ── none of the first i rows passes ──
   unfoldable pub Passed : (A → Bool) → List A → ℕ → Type 0

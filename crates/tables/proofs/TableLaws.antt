@@ -9,7 +9,7 @@ use native.Mathlib.Omega.{arith}
 use lib.Dec.{ltb, leb, leb-suc-suc}
 use lib.ListN.{length, get_or, set, length-set, length-map, get_or-eq_default, get_or-map, drop_of_length-le}
 use lib.Seq.{take_all}
-use borrow.Author.Tests.{lt-ltb, ltb-true, ltb-false, leb-false, lt-leb}
+use borrow.Author.Tests.{lt-ltb, le-ltb, ltb-true, ltb-false, leb-false, lt-leb}
 use Rattle.numbers.specs.Search.{first}
 use Rattle.numbers.specs.Tests.{◌and◌, isnt}
 use Rattle.numbers.proofs.Bools.{split, clash, not-true, not-false, bool-ext, and_l, and_r, and_i, and-no-l, and-no-r, isnt-true, isnt-i, isnt-no, implies, implied}
@@ -212,6 +212,15 @@ module _ {A : Type 0} (K : Shape A) where
   seat-free : (k : A → Bool) (t : List A) → has K k t ≡ false → seat K k t ≡ first K.free t
   unfolding seat
   seat-free k t h = rw h
+
+  -- as a search finds it: the place of a hit, or else the lowest free one
+  pub seat-there : (k : A → Bool) (t : List A) {i : ℕ} → i ≡ first (hit K k) t → i < length t → i ≡ seat K k t
+  unfolding has
+  seat-there k t e l = e ∙ sym (seat-hit k t (lt-ltb _ _ (omega arith)))
+
+  pub seat-new : (k : A → Bool) (t : List A) → length t ≤ first (hit K k) t → seat K k t ≡ first K.free t
+  unfolding has
+  seat-new k t l = seat-free k t (le-ltb _ _ l)
 
   pub no-room-seat : (k : A → Bool) (t : List A) → no_room K k t ≡ leb (length t) (seat K k t)
   unfolding full ◌and◌ isnt

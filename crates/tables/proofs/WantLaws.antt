@@ -1,14 +1,16 @@
 -- What the tests of a word say.
 use mathlib.Core.Path.{◌≡◌, refl, sym, ap, ◌∙◌}
-use mathlib.Core.Bool.{true}
+use mathlib.Core.Bool.{true, false}
 use mathlib.Core.Logic.{◌⊎◌, inl, inr, ⊎_elim, ◌↔◌}
 use Prim.Native.Nat.{ℕ, ◌<◌}
 use native.Mathlib.Omega.{arith}
 use borrow.Author.Tests.{eqb-true, eq-eqb, ne_eqb}
+use Rattle.std.specs.Prelude.{Option, Some, None}
+use Rattle.numbers.specs.Tests.{isnt}
 use Rattle.numbers.specs.Entries.{key_in, guest_in, gpage_in, page_in, left_in, right_in}
-use Rattle.numbers.proofs.Bools.{and_l, and_r, and_i, or-e, or-il, or-ir, isnt-i}
+use Rattle.numbers.proofs.Bools.{split, cond-true, cond-false, and_l, and_r, and_i, or-e, or-il, or-ir, isnt-i}
 use Rattle.tables.specs.Table.{live}
-use Rattle.tables.specs.Wants.{W, has_key, of_guest, of_gpage, to_page, ends_at, joins, same_entry, same_pair}
+use Rattle.tables.specs.Wants.{W, found, has_key, of_guest, of_gpage, to_page, ends_at, joins, same_entry, same_pair}
 use Rattle.tables.proofs.TableLaws.{Same}
 
 -- ── a word that is 0 is free ──
@@ -96,3 +98,22 @@ same_pair-is = record {
       let h = (same_pair-agrees x y).0 e in let k = (same_pair-agrees y z).0 f in
       (same_pair-agrees x z).1 (h.0 ∙ k.0, ends-trans x y z h.1 k.1);
 }
+
+-- ── what a search by key comes to ──
+pub some-found : {w : ℕ} → live W w ≡ true → Some w ≡ found w
+some-found e = sym (cond-true e _ _)
+
+pub none-found : None ≡ found 0
+unfolding isnt
+none-found = refl
+
+-- and back
+pub found-some : {w x : ℕ} → Some w ≡ found x → (w ≡ x) × (live W x ≡ true)
+found-some {w} {x} e = split (live W x)
+    (λ l. let f : Some w ≡ Some x = e ∙ cond-true l _ _ in (cc, l))
+    (λ l. let f : Some w ≡ None = e ∙ cond-false l _ _ in absurd (cc))
+
+pub found-none : {x : ℕ} → None ≡ found x → live W x ≡ false
+found-none {x} e = split (live W x)
+    (λ l. let f : None ≡ Some x = e ∙ cond-true l _ _ in absurd (cc))
+    (λ l. l)

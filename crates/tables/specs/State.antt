@@ -1,15 +1,13 @@
 -- The tables: who holds what, the two sides, lookup, quiescence, boot.
-use Rattle.std.specs.Prelude.{ℕ, zero, suc, ◌+◌, ◌-◌, ◌/◌, ◌%◌, ◌^◌, Bool, true, false, cond, List, [], ◌∷◌, ◌++◌, eqb, leb, get_or, replicate}
+use Rattle.std.specs.Prelude.{ℕ, zero, suc, ◌+◌, ◌-◌, ◌/◌, ◌%◌, ◌^◌, Bool, true, false, cond, Option, None, Some, List, [], ◌∷◌, ◌++◌, eqb, leb, get_or, replicate}
 use Rattle.numbers.specs.Sizes.{guests, units, pages, map_room, tlb_room, pair_room}
 use Rattle.numbers.specs.Tests.{◌and◌, ◌or◌, isnt}
 use Rattle.numbers.specs.Entries.{key_of, readable, writable}
 use Rattle.tables.specs.Table.{live, find, has}
-use Rattle.tables.specs.Wants.{W, has_key, to_page, shared_with}
+use Rattle.tables.specs.Wants.{W, has_key, to_page, shared_with, found}
 use Rattle.tables.specs.declared.state.Tables.{Tables}
 use Rattle.tables.specs.declared.state.Side.{Side}
 use Rattle.tables.specs.declared.state.Side.TheVariants.{Cpu, Iommu}
-use Rattle.tables.specs.declared.state.Found.{Found}
-use Rattle.tables.specs.declared.state.Found.TheVariants.{Entry, Nothing}
 
 -- ── who holds or runs, as a number ──
 abbrev pub nobody : ℕ
@@ -72,25 +70,22 @@ effective_entry map tlb u g v =
     let cached = find W (has_key (key_of u g v)) tlb in
     cond (live W cached) cached (find W (has_key (key_of 0 g v)) map)
 
-abbrev pub found : ℕ → Found
-found w = cond (live W w) (Entry w) Nothing
-
-abbrev pub lookup : List ℕ → List ℕ → ℕ → ℕ → ℕ → Found
+abbrev pub lookup : List ℕ → List ℕ → ℕ → ℕ → ℕ → Option ℕ
 lookup map tlb u g v = found (effective_entry map tlb u g v)
 
 -- 9: no translation
-abbrev pub nothing : Found → Bool
-nothing (Entry w) = false
-nothing Nothing = true
+abbrev pub nothing : Option ℕ → Bool
+nothing (Some w) = false
+nothing None = true
 
 -- 10: access not allowed
-abbrev pub can_read : Found → Bool
-can_read (Entry w) = readable w
-can_read Nothing = false
+abbrev pub can_read : Option ℕ → Bool
+can_read (Some w) = readable w
+can_read None = false
 
-abbrev pub can_write : Found → Bool
-can_write (Entry w) = writable w
-can_write Nothing = false
+abbrev pub can_write : Option ℕ → Bool
+can_write (Some w) = writable w
+can_write None = false
 
 -- ── nothing leads to a page any more ──
 abbrev pub iommu_page_is_quiescent : List ℕ → List ℕ → ℕ → Bool

@@ -1,14 +1,18 @@
 -- What is looked for in a table of words.
-use Rattle.std.specs.Prelude.{ℕ, Bool, List, eqb}
+use Rattle.std.specs.Prelude.{ℕ, Bool, cond, List, Option, None, Some, eqb}
 use Rattle.numbers.specs.Tests.{◌and◌, ◌or◌}
 use Rattle.numbers.specs.Entries.{key_in, guest_in, gpage_in, page_in, left_in, right_in}
-use Rattle.tables.specs.Table.{Shape, wipe}
+use Rattle.tables.specs.Table.{Shape, live, wipe}
 use Rattle.tables.specs.declared.search.Want.{Want}
 use Rattle.tables.specs.declared.search.Want.TheVariants.{Key, Everywhere, Page, Guest, Maps, Pair, End, Shared}
 
 -- a word is live unless it is 0
 abbrev pub W : Shape ℕ
 W = record { zero = 0; free = λ w. eqb w 0 }
+
+-- a word that a search by key comes to, or nothing where it is 0
+abbrev pub found : ℕ → Option ℕ
+found w = cond (live W w) (Some w) None
 
 -- ── tests of a word ──
 unfoldable pub has_key : ℕ → ℕ → Bool

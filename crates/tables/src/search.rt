@@ -1,14 +1,15 @@
 // Tables of words, lent as slices of any length: one search, and what stands on it. A free place is 0.
-ghost use Rattle.std.specs.Prelude.{◌≡◌, set};
+ghost use Rattle.std.specs.Prelude.{◌≡◌, ◌≤◌, ◌<◌, length, IfSome, IfNone};
+ghost use Rattle.std.specs.List.{position};
 ghost use Rattle.numbers.specs.Search.{first};
 ghost use Rattle.tables.specs.Steps.{wipe_from};
 ghost use Rattle.tables.specs.Table.{hit, find, has, seat, cleared};
-ghost use Rattle.tables.specs.Wants.{W, has_key, ends_at, joins, meets, invalidated};
+ghost use Rattle.tables.specs.Wants.{W, has_key, ends_at, joins, meets, found, invalidated};
 
 use numbers::entries;
 
 // What is looked for.
-#[derive(Clone, Copy)]
+#[derive(Clone, Copy, Debug, PartialEq, Eq)]
 pub enum Want {
     // the key of an entry: unit, guest and guest page
     Key(u32),
@@ -66,75 +67,60 @@ pub fn hits(word: u32, want: Want) -> bool
 }
 
 // ── searches ──
-// The place of the first row that is looked for, or the length.
-pub fn first(rows: &[u32], want: Want) -> usize
-    ensures { result ≡ first (hit W (meets want)) rows.now }
+// The place of the first row that is looked for.
+pub fn first(rows: &[u32], want: Want) -> Option<usize>
+    ensures { result ≡ position (hit W (meets want)) rows.now }
 {
-    let mut i: usize = 0;
-    while i < rows.len() {
-        if hits(rows[i], want) {
-            return i;
-        }
-        i += 1;
-    }
-    i
+    rows.iter().position(|row| hits(*row, want))
 }
 
-// The lowest free place, or the length.
-pub fn free(rows: &[u32]) -> usize
-    ensures { result ≡ first W.free rows.now }
+// The lowest free place.
+pub fn free(rows: &[u32]) -> Option<usize>
+    ensures some { IfSome result (λ at. (at ≡ first W.free rows.now) × (at < length rows.now)) }
+    ensures none { IfNone result (length rows.now ≤ first W.free rows.now) }
 {
     let mut i: usize = 0;
     loop {
         if rows.len() <= i {
-            break i;
+            break None;
         }
         if rows[i] == 0 {
-            break i;
+            break Some(i);
         }
         i += 1;
     }
 }
 
-// The row that has the key, or 0. Every access comes here, so the loop is its own: it tests nothing but the key.
-pub fn find(rows: &[u32], key: u32) -> u32
-    ensures { result ≡ find W (has_key key) rows.now }
+// The row that has the key. Every access comes here, so the loop is its own: it tests nothing but the key.
+pub fn find(rows: &[u32], key: u32) -> Option<u32>
+    ensures { result ≡ found (find W (has_key key) rows.now) }
 {
-    let mut i: usize = 0;
-    while i < rows.len() {
-        let word = rows[i];
-        if (word != 0) & (key == entries::key_in(word)) {
-            return word;
+    for row in rows {
+        if (*row != 0) & (key == entries::key_in(*row)) {
+            return Some(*row);
         }
-        i += 1;
     }
-    0
+    None
 }
 
 pub fn has(rows: &[u32], want: Want) -> bool
     ensures { result ≡ has W (meets want) rows.now }
 {
-    first(rows, want) < rows.len()
-}
-
-// ── changes ──
-// Past the end nothing is stored.
-pub fn set_row(rows: &mut [u32], at: usize, word: u32)
-    ensures { rows.new ≡ set rows.old at word }
-{
-    if at < rows.len() {
-        rows[at] = word;
-    }
+    first(rows, want).is_some()
 }
 
 // Where a row goes: over the one that is looked for, else to the lowest free place.
-pub fn seat(rows: &[u32], want: Want) -> usize
-    ensures { result ≡ seat W (meets want) rows.now }
+pub fn seat(rows: &[u32], want: Want) -> Option<usize>
+    ensures some { IfSome result (λ at. (at ≡ seat W (meets want) rows.now) × (at < length rows.now)) }
+    ensures none { IfNone result (length rows.now ≤ seat W (meets want) rows.now) }
 {
-    let at = first(rows, want);
-    if at < rows.len() { at } else { free(rows) }
+    match first(rows, want) {
+        Some(at) => Some(at),
+        None => free(rows),
+    }
 }
 
+// ── changes ──
 fn cleared(word: u32, want: Want) -> u32
     ensures { result ≡ cleared W (meets want) word }
 {
@@ -145,10 +131,8 @@ fn cleared(word: u32, want: Want) -> u32
 pub fn wipe_from(rows: &mut [u32], from: usize, want: Want)
     ensures { rows.new ≡ wipe_from W (meets want) from rows.old }
 {
-    let mut i = from;
-    while i < rows.len() {
+    for i in from..rows.len() {
         rows[i] = cleared(rows[i], want);
-        i += 1;
     }
 }
 

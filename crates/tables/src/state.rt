@@ -1,12 +1,13 @@
 // The tables: one flat struct of number arrays, by value. Who holds or runs is a number too: nobody, the hypervisor, or a guest
 // counted from `Tables::GUEST` on.
-ghost use Rattle.std.specs.Prelude.{◌≡◌, false, eqb, get_or};
-ghost use Rattle.tables.specs.State.{guest, guest_of, effective_entry, lookup, page_is_quiescent, iommu_page_is_quiescent, reach, empty, boot};
+ghost use Rattle.std.specs.Prelude.{◌≡◌, true, false, eqb, IfSome, IfNone};
+ghost use Rattle.tables.specs.State.{guest, a_guest, guest_of, lookup, map_of, tlb_of, held_on, may_reach, page_is_quiescent, iommu_page_is_quiescent, empty, boot};
+ghost use Rattle.tables.specs.Lent.{tables_of};
 
 use crate::search;
 use crate::search::Want;
-use numbers::entries;
 use numbers::frames::Action;
+use numbers::{cells, entries};
 
 #[derive(Clone, Copy)]
 pub struct Tables {
@@ -27,32 +28,29 @@ pub struct Tables {
 }
 
 // The two sides of the machine, alike but for what a guest may reach.
-#[derive(Clone, Copy)]
+#[derive(Clone, Copy, Debug, PartialEq, Eq)]
 pub enum Side {
     Cpu,
     Iommu,
 }
 
-// What a lookup finds.
+// The tables, or what a caller has of them, lent for reading.
 #[derive(Clone, Copy)]
-pub enum Found {
-    Entry(u32),
-    Nothing,
+pub struct Lent<'a> {
+    pub map: &'a [u32],
+    pub tlb: &'a [u32],
+    pub io_map: &'a [u32],
+    pub io_tlb: &'a [u32],
+    pub pairs: &'a [u32],
+    pub holder: &'a [u8],
+    pub dma: &'a [u8],
+    pub region: &'a [bool],
+    pub present: &'a [bool],
+    pub running: &'a [u8],
 }
 
-// ── lists by index: past the end false or 0 ──
-pub fn flag(list: &[bool], at: usize) -> bool
-    ensures { result ≡ get_or list.now at false }
-{
-    if at < list.len() { list[at] } else { false }
-}
-
-pub fn who(list: &[u8], at: usize) -> u8
-    ensures { result ≡ get_or list.now at 0 }
-{
-    if at < list.len() { list[at] } else { 0 }
-}
-
+// ── who holds or runs, as a number ──
+// Whether a number among holders is the guest's.
 pub fn is_guest(who: u8, g: u8) -> bool
     ensures { result ≡ eqb who (guest g) }
 {
@@ -60,70 +58,86 @@ pub fn is_guest(who: u8, g: u8) -> bool
 }
 
 // Which guest a holder's number says.
-pub fn guest_of(who: u8) -> usize
-    ensures { result ≡ guest_of who }
+pub fn guest_of(who: u8) -> Option<u8>
+    ensures some { IfSome result (λ g. (g ≡ guest_of who) × (a_guest who ≡ true)) }
+    ensures none { IfNone result (a_guest who ≡ false) }
 {
-    if Tables::GUEST <= who {
-        (who - Tables::GUEST) as usize
-    } else {
-        0
-    }
+    who.checked_sub(Tables::GUEST)
 }
 
 // ── translation ──
-// A TLB hit comes before the map; 0 where neither has the key.
-fn effective_entry<'a>(map: &'a [u32], tlb: &'a [u32], unit: u8, guest: u8, gpage: u16) -> u32
-    ensures { result ≡ effective_entry map.now tlb.now unit guest gpage }
-{
-    let cached = search::find(tlb, entries::key_of(unit, guest, gpage));
-    if cached != 0 {
-        return cached;
-    }
-    search::find(map, entries::key_of(0, guest, gpage))
-}
-
-pub fn lookup<'a>(map: &'a [u32], tlb: &'a [u32], unit: u8, guest: u8, gpage: u16) -> Found
+// A TLB hit comes before the map.
+pub fn lookup<'a>(map: &'a [u32], tlb: &'a [u32], unit: u8, guest: u8, gpage: u16) -> Option<u32>
     ensures { result ≡ lookup map.now tlb.now unit guest gpage }
 {
-    let word = effective_entry(map, tlb, unit, guest, gpage);
-    if word != 0 {
-        Found::Entry(word)
-    } else {
-        Found::Nothing
+    match search::find(tlb, entries::key_of(unit, guest, gpage)) {
+        Some(cached) => Some(cached),
+        None => search::find(map, entries::key_of(0, guest, gpage)),
     }
 }
 
-// May a guest's entries on a side lead to a page: the side's holder may, and who shares it, or whoever asks for the region.
-pub fn reach<'a>(
-    side: Side,
-    held: &'a [u8],
-    pairs: &'a [u32],
-    region: &'a [bool],
-    guest: u8,
-    page: u16,
-) -> bool
-    ensures { result ≡ reach side held.now pairs.now region.now guest page }
-{
-    let own = is_guest(who(held, page as usize), guest);
-    match side {
-        Side::Cpu => own | search::has(pairs, Want::Shared(guest, page)),
-        Side::Iommu => own | flag(region, page as usize),
+impl<'a> Lent<'a> {
+    pub fn map_of(self, side: Side) -> &'a [u32]
+        ensures { result.now ≡ map_of side (tables_of self.entry) }
+    {
+        match side {
+            Side::Cpu => self.map,
+            Side::Iommu => self.io_map,
+        }
     }
-}
 
-// ── quiescence ──
-// No IOMMU entry leads to the page.
-pub fn iommu_page_is_quiescent<'a>(map: &'a [u32], tlb: &'a [u32], page: u16) -> bool
-    ensures { result ≡ iommu_page_is_quiescent map.now tlb.now page }
-{
-    !search::has(map, Want::Page(page)) & !search::has(tlb, Want::Page(page))
-}
+    pub fn tlb_of(self, side: Side) -> &'a [u32]
+        ensures { result.now ≡ tlb_of side (tables_of self.entry) }
+    {
+        match side {
+            Side::Cpu => self.tlb,
+            Side::Iommu => self.io_tlb,
+        }
+    }
 
-// No stage-2 entry leads to the page and no pair names it.
-pub fn page_is_quiescent<'a>(map: &'a [u32], tlb: &'a [u32], pairs: &'a [u32], page: u16) -> bool
-    ensures { result ≡ page_is_quiescent map.now tlb.now pairs.now page }
-{
-    iommu_page_is_quiescent(map, tlb, page) & !search::has(pairs, Want::Page(page))
+    // Who holds each page on a side.
+    pub fn held_on(self, side: Side) -> &'a [u8]
+        ensures { result.now ≡ held_on side (tables_of self.entry) }
+    {
+        match side {
+            Side::Cpu => self.holder,
+            Side::Iommu => self.dma,
+        }
+    }
+
+    // May a guest's entries on a side lead to a page: the side's holder may, and who shares it, or whoever asks for the region.
+    pub fn may_reach(self, side: Side, guest: u8, page: u16) -> bool
+        ensures { result ≡ may_reach side (tables_of self.entry) guest page }
+    {
+        let own = is_guest(cells::get_or(self.held_on(side), page as usize, 0), guest);
+        match side {
+            Side::Cpu => own | search::has(self.pairs, Want::Shared(guest, page)),
+            Side::Iommu => own | cells::get_or(self.region, page as usize, false),
+        }
+    }
+
+    // ── quiescence ──
+    // No entry of the side leads to the page.
+    fn no_entry_leads(self, side: Side, page: u16) -> bool
+        ensures { result ≡ iommu_page_is_quiescent (map_of side (tables_of self.entry)) (tlb_of side (tables_of self.entry)) page }
+    {
+        !search::has(self.map_of(side), Want::Page(page))
+            & !search::has(self.tlb_of(side), Want::Page(page))
+    }
+
+    // No IOMMU entry leads to the page.
+    pub fn iommu_page_is_quiescent(self, page: u16) -> bool
+        ensures { result ≡ iommu_page_is_quiescent self.entry.io_map.now self.entry.io_tlb.now page }
+    {
+        self.no_entry_leads(Side::Iommu, page)
+    }
+
+    // No stage-2 entry leads to the page and no pair names it.
+    pub fn page_is_quiescent(self, page: u16) -> bool
+        ensures { result ≡ page_is_quiescent self.entry.map.now self.entry.tlb.now self.entry.pairs.now page }
+    {
+        self.no_entry_leads(Side::Cpu, page) & !search::has(self.pairs, Want::Page(page))
+    }
 }
 
 impl Tables {
@@ -145,6 +159,24 @@ impl Tables {
     pub const HYPERVISOR: u8 = 1;
 
     pub const GUEST: u8 = 2;
+
+    // Lent whole.
+    pub fn lend(&self) -> Lent
+        ensures { tables_of result ≡ self.now }
+    {
+        Lent {
+            map: &self.map,
+            tlb: &self.tlb,
+            io_map: &self.io_map,
+            io_tlb: &self.io_tlb,
+            pairs: &self.pairs,
+            holder: &self.holder,
+            dma: &self.dma,
+            region: &self.region,
+            present: &self.present,
+            running: &self.running,
+        }
+    }
 
     pub fn empty() -> Tables
         ensures { result ≡ empty }
@@ -171,14 +203,12 @@ impl Tables {
         let mut shared = [false; Tables::PAGES];
         let mut h = hypervisor;
         let mut r = region;
-        let mut p: usize = 0;
-        while p < Tables::PAGES {
+        for p in 0..Tables::PAGES {
             // a bit is the holder's number: 1 the hypervisor, 0 nobody
             holders[p] = (h % 2) as u8;
             shared[p] = r % 2 == 1;
             h = h / 2;
             r = r / 2;
-            p += 1;
         }
         let mut t = Tables::empty();
         t.holder = holders;

@@ -13,8 +13,11 @@ loop-i-init c = (search rules, passed_none _ _)
 pub loop-i-preserved : goal.loop-i-preserved
 loop-i-preserved c = (search rules, passed-more W.free _ _ 0 c.if-rows-i.false c.loop-i.invariant.1 (ne_eqb _ _ c.if-rows-i-eq0.false))
 
-pub returns-then-rows-i : goal.returns-then-rows-i
-returns-then-rows-i c = omega (arith, passed-end _ _ _ c.if-rows-i.true c.loop-i.invariant.0 c.loop-i.invariant.1)
+pub returns-then-rows-i-clause-none : goal.returns-then-rows-i-clause-none
+returns-then-rows-i-clause-none c = omega (arith, passed-end _ _ _ c.if-rows-i.true c.loop-i.invariant.0 c.loop-i.invariant.1)
 
-pub returns-then-rows-i-eq0 : goal.returns-then-rows-i-eq0
-returns-then-rows-i-eq0 c = sym (passed-hit W.free _ _ 0 c.if-rows-i.false c.loop-i.invariant.1 (eq-eqb _ _ c.if-rows-i-eq0.true))
+pub returns-then-rows-i-eq0-clause-some : goal.returns-then-rows-i-eq0-clause-some
+returns-then-rows-i-eq0-clause-some c = (
+  sym (passed-hit W.free _ _ 0 c.if-rows-i.false c.loop-i.invariant.1 (eq-eqb _ _ c.if-rows-i-eq0.true)),
+  c.if-rows-i.false,
+)

@@ -1,12 +1,14 @@
 -- `tables::search::seat` meets its contract.
-use borrow.Author.Tests.{lt-ltb, le-ltb}
-use Rattle.tables.specs.Table.{has, seat}
+use mathlib.Core.Path.{◌∙◌, sym}
+use Rattle.numbers.proofs.SearchLaws.{position-some, position-none}
+use Rattle.tables.specs.Wants.{W, meets}
+use Rattle.tables.proofs.TableLaws.{seat-there, seat-new}
 use Rattle.tables.proofs.search.seat.Goals as goal
 
-pub returns-then-at-rows : goal.returns-then-at-rows
-unfolding seat has
-returns-then-at-rows c = rw (← c.first-at.ensures, lt-ltb _ _ c.if-at-rows.true)
+pub returns-in-Some-clause-some : goal.returns-in-Some-clause-some
+returns-in-Some-clause-some c =
+    let h = position-some _ _ (sym c.in-Some.is ∙ c.first.ensures) in
+    (seat-there W (meets c.args.want) _ h.0 h.1, h.1)
 
-pub returns-else-at-rows : goal.returns-else-at-rows
-unfolding seat has
-returns-else-at-rows c = rw (← c.first-at.ensures, le-ltb _ _ c.if-at-rows.false) c.free.ensures
+pub returns-in-None : goal.returns-in-None
+returns-in-None c = rw (seat-new W (meets c.args.want) _ (position-none _ _ (sym c.in-None.is ∙ c.first.ensures))) c.free.ensures

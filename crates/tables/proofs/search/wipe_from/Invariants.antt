@@ -1,5 +1,4 @@
 use mathlib.Core.Path.{◌≡◌}
-use Prim.Native.Nat.{◌-◌}
 use lib.ListN.{length}
 use Rattle.tables.specs.Steps.{wipe_from}
 use Rattle.tables.specs.Wants.{W, meets}
@@ -7,6 +6,3 @@ use Rattle.tables.proofs.search.wipe_from.Given as goal
 
 abbrev pub invariant-loop-i : goal.invariant-loop-i
 invariant-loop-i l = (length l.rows ≡ length l.initial.rows) × (wipe_from W (meets l.want) l.i l.rows ≡ wipe_from W (meets l.want) l.from l.initial.rows)
-
-abbrev pub decreases-loop-i : goal.decreases-loop-i
-decreases-loop-i l = length l.initial.rows - l.i

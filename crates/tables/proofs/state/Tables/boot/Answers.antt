@@ -12,22 +12,17 @@ use Rattle.tables.proofs.state.Tables.boot.Goals as goal
 
 pub loop-p-init : goal.loop-p-init
 unfolding pages
-loop-p-init c = (search rules, sym (div-one _), sym (div-one _), refl, refl, filled_none _ _ _, filled_none _ _ _)
-
-pub loop-p-smaller : goal.loop-p-smaller
-unfolding pages
-loop-p-smaller c = search rules
+loop-p-init c = (sym (div-one _), sym (div-one _), refl, refl, filled_none _ _ _, filled_none _ _ _)
 
 pub loop-p-preserved : goal.loop-p-preserved
 unfolding pages
 loop-p-preserved c = (
-  search rules,
+  halved _ _ _ c.loop-p.invariant.0,
   halved _ _ _ c.loop-p.invariant.1,
-  halved _ _ _ c.loop-p.invariant.2,
+  (simp length-set) ∙ c.loop-p.invariant.2,
   (simp length-set) ∙ c.loop-p.invariant.3,
-  (simp length-set) ∙ c.loop-p.invariant.4,
-  filled_more _ _ _ _ _ (omega arith) c.loop-p.invariant.5 (holder-bit _ _ _ c.loop-p.invariant.1),
-  filled_more _ _ _ _ _ (omega arith) c.loop-p.invariant.6 (region-bit _ _ _ c.loop-p.invariant.2),
+  filled_more _ _ _ _ _ (omega arith) c.loop-p.invariant.4 (holder-bit _ _ _ c.loop-p.invariant.0),
+  filled_more _ _ _ _ _ (omega arith) c.loop-p.invariant.5 (region-bit _ _ _ c.loop-p.invariant.1),
 )
 
 pub returns : goal.returns
@@ -35,6 +30,6 @@ unfolding boot empty bare pages
 returns c = let e : c.loop-p.p ≡ pages = omega arith in
     rw (
       c.empty-t.ensures,
-      filled-end (pool c.args.hypervisor) 0 _ pages c.loop-p.invariant.3 (rw e at c.loop-p.invariant.5),
-      filled-end (bit c.args.region) false _ pages c.loop-p.invariant.4 (rw e at c.loop-p.invariant.6),
+      filled-end (pool c.args.hypervisor) 0 _ pages c.loop-p.invariant.2 (rw e at c.loop-p.invariant.4),
+      filled-end (bit c.args.region) false _ pages c.loop-p.invariant.3 (rw e at c.loop-p.invariant.5),
     )

@@ -1,8 +1,0 @@
--- `tables::state::flag` meets its contract.
-use mathlib.Core.Bool.{false}
-use mathlib.Core.Path.{sym}
-use lib.ListN.{get_or-eq_default}
-use Rattle.tables.proofs.state.flag.Goals as goal
-
-pub returns-else-at-list : goal.returns-else-at-list
-returns-else-at-list c = sym (get_or-eq_default c.args.list.now false c.if-at-list.false)

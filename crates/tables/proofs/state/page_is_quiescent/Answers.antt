@@ -1,7 +1,0 @@
--- `tables::state::page_is_quiescent` meets its contract.
-use Rattle.numbers.specs.Tests.{◌and◌, isnt}
-use Rattle.tables.proofs.state.page_is_quiescent.Goals as goal
-
-pub returns : goal.returns
-unfolding ◌and◌ isnt
-returns c = rw (c.iommu_page_is_quiescent.ensures, c.has.ensures)

@@ -1,7 +1,0 @@
--- `tables::state::who` meets its contract.
-use mathlib.Core.Path.{sym}
-use lib.ListN.{get_or-eq_default}
-use Rattle.tables.proofs.state.who.Goals as goal
-
-pub returns-else-at-list : goal.returns-else-at-list
-returns-else-at-list c = sym (get_or-eq_default c.args.list.now 0 c.if-at-list.false)
