@@ -5,7 +5,7 @@ use mathlib.Core.Logic.{◌⊎◌, inl, inr, ⊎_elim, ◌↔◌}
 use Prim.Native.Nat.{ℕ, ◌<◌}
 use native.Mathlib.Omega.{arith}
 use borrow.Author.Tests.{eqb-true, eq-eqb, ne_eqb}
-use Rattle.std.specs.Prelude.{Option, Some, None}
+use Rattle.std.specs.Prelude.{Some, None}
 use Rattle.numbers.specs.Tests.{isnt}
 use Rattle.numbers.specs.Entries.{key_in, guest_in, gpage_in, page_in, left_in, right_in}
 use Rattle.numbers.proofs.Bools.{split, cond-true, cond-false, and_l, and_r, and_i, or-e, or-il, or-ir, isnt-i}
@@ -113,7 +113,7 @@ found-some {w} {x} e = split (live W x)
     (λ l. let f : Some w ≡ Some x = e ∙ cond-true l _ _ in (cc, l))
     (λ l. let f : Some w ≡ None = e ∙ cond-false l _ _ in absurd (cc))
 
-pub found-none : {x : ℕ} → None ≡ found x → live W x ≡ false
-found-none {x} e = split (live W x)
+pub found-none : (x : ℕ) → None ≡ found x → live W x ≡ false
+found-none x e = split (live W x)
     (λ l. let f : None ≡ Some x = e ∙ cond-true l _ _ in absurd (cc))
     (λ l. l)

@@ -11,7 +11,7 @@ use Rattle.numbers.specs.Entries.{key_in}
 use Rattle.numbers.specs.Search.{first}
 use Rattle.numbers.proofs.Bools.{and_l}
 use Rattle.numbers.proofs.SearchLaws.{Passed, passed_none, passed-more, passed-hit, passed-end}
-use Rattle.tables.specs.Table.{hit, live, find}
+use Rattle.tables.specs.Table.{hit, find}
 use Rattle.tables.specs.Wants.{W, has_key, found}
 use Rattle.tables.proofs.WantLaws.{some-found, none-found}
 use Rattle.tables.proofs.search.find.Goals as goal

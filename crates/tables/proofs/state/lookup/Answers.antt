@@ -1,5 +1,5 @@
 -- `tables::state::lookup` meets its contract.
-use mathlib.Core.Path.{◌≡◌, ◌∙◌, sym, ap}
+use mathlib.Core.Path.{◌∙◌, sym, ap}
 use Rattle.numbers.proofs.Bools.{cond-true, cond-false}
 use Rattle.tables.specs.State.{effective_entry}
 use Rattle.tables.specs.Wants.{found}
@@ -16,4 +16,4 @@ pub returns-in-None : goal.returns-in-None
 unfolding effective_entry
 returns-in-None c =
     let e = rw c.key_of.ensures at (sym c.in-None.is ∙ c.find.ensures) in
-    rw c.key_of-in-None.ensures at c.find-in-None.ensures ∙ ap found (sym (cond-false (found-none e) _ _))
+    rw c.key_of-in-None.ensures at c.find-in-None.ensures ∙ ap found (sym (cond-false (found-none _ e) _ _))

@@ -4,7 +4,6 @@ use mathlib.Core.Path.{◌≡◌, refl, sym, ◌∙◌}
 use native.Mathlib.Nat.{div-one}
 use native.Mathlib.Omega.{arith}
 use lib.ListN.{length-set}
-use borrow.Author.Rules.{rules}
 use Rattle.numbers.specs.Sizes.{pages}
 use Rattle.tables.specs.State.{pool, bit, bare, empty, boot}
 use Rattle.tables.proofs.LoopLaws.{filled_none, filled_more, filled-end, halved, holder-bit, region-bit}
