@@ -1,3 +1,2 @@
 pub mod PartLaws
 pub mod Answers
-pub mod AccessLaws

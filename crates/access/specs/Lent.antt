@@ -1,45 +1,25 @@
--- An action in front of lent parts of the tables: its number, and for kinds 01 to 05, which leave the tables as they are, all of it.
-use Rattle.std.specs.Prelude.{ℕ, Bool, cond, List, [], eqb}
+-- An action in front of the tables, lent or not: its number, and for kinds 01 to 05, which leave the tables as they are, all of it.
+use Rattle.std.specs.Prelude.{ℕ, Bool, cond, List}
+use Rattle.numbers.specs.Sizes.{guests, units, guest_words}
+use Rattle.numbers.specs.Tests.{◌or◌, isnt}
 use Rattle.numbers.specs.Rules.{Rules, least}
 use Rattle.numbers.specs.Rules.Rules.{accept, ◌⇒◌∣◌}
+use Rattle.numbers.specs.Frames.{off}
 use Rattle.numbers.specs.declared.answers.Seen.{Seen}
 use Rattle.numbers.specs.declared.frames.Action.{Action}
+use Rattle.tables.specs.State.{nothing, can_read, can_write}
 use Rattle.tables.specs.declared.state.Tables.{Tables}
 use Rattle.tables.specs.declared.state.Side.{Side}
 use Rattle.tables.specs.declared.state.Side.TheVariants.{Cpu, Iommu}
-use Rattle.rules.specs.Actions.{Op, refusals, absent, elsewhere, seen, word_at, Outcome, acted}
+use Rattle.rules.specs.Actions.{Op, refusals, absent, elsewhere, seen, Outcome, acted}
 use Rattle.rules.specs.Actions.Op.{Read, Write, HyperCall}
 use Rattle.rules.specs.Calls.{chosen}
 use Rattle.rules.specs.Calls.Arms.{◌does◌∣◌, otherwise}
 use Rattle.access.specs.declared.guests.Ask.{Ask}
-use Rattle.access.specs.declared.guests.Target.{Target}
 
 -- the number of an action by itself: the lowest that applies, or 0
 unfoldable pub number : Tables → Op → ℕ
 number m o = least (refusals m o)
-
--- tables of these parts; those that an action does not look at are empty
-abbrev pub parts : (map tlb io_map io_tlb pairs holder dma : List ℕ) (region present : List Bool) (running : List ℕ) → Tables
-parts map tlb io_map io_tlb pairs holder dma region present running = record {
-  map = map;
-  tlb = tlb;
-  io_map = io_map;
-  io_tlb = io_tlb;
-  pairs = pairs;
-  holder = holder;
-  dma = dma;
-  region = region;
-  present = present;
-  running = running;
-}
-
--- the parts that kinds 01 to 05 look at
-abbrev pub lent : List Bool → List ℕ → List ℕ → List ℕ → List ℕ → List ℕ → Tables
-lent present running map tlb io_map io_tlb = parts map tlb io_map io_tlb [] [] [] [] present running
-
--- those of one side, the map and the TLB that the access goes through
-abbrev pub lent_on : List Bool → List ℕ → List ℕ → List ℕ → Tables
-lent_on present running map tlb = lent present running map tlb map tlb
 
 -- what stands of an outcome beside the tables
 pub record Observed : Type 0 where
@@ -55,7 +35,7 @@ served m o ws = observed (acted m o ws)
 abbrev pub left : Seen → List ℕ → Observed
 left s ws = record { seen = s; memory = ws }
 
--- kinds 01 to 05 by their own rules; any other byte is served as 03, and callers hand over no other
+-- kinds 01 to 05 by their own rules; any other byte is served as 03
 abbrev pub guest_op : Action → Op
 guest_op a =
     chosen a.kind (
@@ -65,21 +45,13 @@ guest_op a =
     0x05 does Write Iommu a.guest a.second a.address a.word ∣
     otherwise (HyperCall a.guest a.second a.word))
 
--- who asks, and on which unit: 4, 6 and 8 come before what is asked for
-abbrev pub asker : Bool → Side → List Bool → List ℕ → ℕ → ℕ → Rules
-asker far d present running g u =
-    let m = lent_on present running [] [] in
-    far ⇒ 4 ∣
-    absent m g ⇒ 6 ∣
-    elsewhere d m u g ⇒ 8 ∣
+-- the refusals of an access that writes, or reads
+abbrev pub access_rules : Bool → Side → Tables → Ask → Rules
+access_rules writes d m q =
+    let found = seen d m q.guest q.unit q.address in
+    off q.guest guests or off q.unit units or off q.address guest_words ⇒ 4 ∣
+    absent m q.guest ⇒ 6 ∣
+    elsewhere d m q.unit q.guest ⇒ 8 ∣
+    nothing found ⇒ 9 ∣
+    isnt (cond writes (can_write found) (can_read found)) ⇒ 10 ∣
     accept
-
--- an access that reads, or writes; its refusals do not depend on the word
-abbrev pub access_op : Bool → Side → Ask → Op
-access_op writes d q = cond writes (Write d q.guest q.unit q.address 0) (Read d q.guest q.unit q.address)
-
--- its number, and the word of memory that it leads to
-unfoldable pub access : Bool → Side → Tables → Ask → Target
-access writes d m q =
-    let n = number m (access_op writes d q) in
-    record { number = n; at = cond (eqb n 0) (word_at (seen d m q.guest q.unit q.address) q.address) 0 }

@@ -1,55 +1,39 @@
-// Kinds 01 to 05 on lent parts of the tables, which they leave as they are: no table is moved for them.
-ghost use Rattle.std.specs.Prelude.{◌≡◌, false, cond, List, [], ℕ, eqb, get_or};
+// Kinds 01 to 05 on lent tables, which they leave as they are: no table is moved for them.
+ghost use Rattle.std.specs.Prelude.{◌≡◌, cond, List, ℕ, IfOk};
+ghost use Rattle.numbers.specs.Answers.{seen_of};
+ghost use Rattle.numbers.specs.Refusals.{numbered};
 ghost use Rattle.numbers.specs.Rules.{least};
-ghost use Rattle.numbers.specs.Tests.{isnt};
 ghost use Rattle.numbers.specs.Entries.{readable, writable};
-ghost use Rattle.tables.specs.State.{guest, by_side};
+ghost use Rattle.tables.specs.Lent.{tables_of};
+ghost use Rattle.rules.specs.Actions.{elsewhere, seen, word_at};
 ghost use Rattle.rules.specs.Actions.Op.{Read, Write, HyperCall};
-ghost use Rattle.access.specs.Lent.{lent, lent_on, served, left, guest_op, asker, access};
+ghost use Rattle.access.specs.Lent.{served, left, guest_op, access_rules};
 
-use crate::{cells, parts};
+use crate::parts;
 use numbers::answers::Seen;
 use numbers::frames::Action;
-use numbers::{addresses, entries, frames};
+use numbers::refusals::Refusal;
+use numbers::{addresses, cells, entries};
 use tables::state;
-use tables::state::{Found, Side};
+use tables::state::{Lent, Side};
 
 // Who asks, on which unit, for which word address.
-#[derive(Clone, Copy)]
+#[derive(Clone, Copy, Debug, PartialEq, Eq)]
 pub struct Ask {
     pub guest: u8,
     pub unit: u8,
     pub address: u16,
 }
 
-// The word of memory that an access leads to, where its number is 0.
-#[derive(Clone, Copy)]
-pub struct Target {
-    pub number: u8,
-    pub at: usize,
-}
-
 // 8: the CPU does not run the guest. A stream acts in any guest's name.
-fn elsewhere(side: Side, running: &[u8], g: u8, u: u8) -> bool
-    ensures { result ≡ by_side side (isnt (eqb (get_or running.now u 0) (guest g))) false }
+#[tactic(auto, using(numbers::proofs::Bools::not_is))]
+fn elsewhere(t: Lent, side: Side, g: u8, u: u8) -> bool
+    ensures { result ≡ elsewhere side (tables_of t.entry) u g }
 {
     match side {
-        Side::Cpu => !state::is_guest(state::who(running, u as usize), g),
+        Side::Cpu => !parts::runs(t.running, g, u),
         Side::Iommu => false,
     }
-}
-
-// 4, 6 and 8, which come before what is asked for.
-fn asker<'a>(far: bool, side: Side, present: &'a [bool], running: &'a [u8], g: u8, u: u8) -> u8
-    ensures { result ≡ least (asker far side present.now running.now g u) }
-{
-    let absent = parts::absent(present, g);
-    let elsewhere = elsewhere(side, running, g, u);
-    frames::rule(
-        far,
-        4,
-        frames::rule(absent, 6, frames::rule(elsewhere, 8, 0)),
-    )
 }
 
 // 10: what the entry allows.
@@ -63,122 +47,73 @@ fn allows(word: u32, writes: bool) -> bool
     }
 }
 
-// An access through a side's map and TLB: where it leads, or why it is refused.
-fn access<'a>(
-    writes: bool,
-    side: Side,
-    present: &'a [bool],
-    running: &'a [u8],
-    map: &'a [u32],
-    tlb: &'a [u32],
-    ask: Ask,
-) -> Target
-    ensures { result ≡ access writes side (lent_on present.now running.now map.now tlb.now) ask }
+// An access through a side's map and TLB: the word of memory that it leads to, or why it is refused.
+#[tactic(auto, using(numbers::proofs::Bools::not_is, numbers::proofs::Bools::or_is), unfolding(numbers::specs::Rules::least, numbers::specs::Sizes::guests, numbers::specs::Sizes::units, numbers::specs::Sizes::gpages, numbers::specs::Sizes::page_words))]
+fn access(t: Lent, side: Side, ask: Ask, writes: bool) -> Result<usize, Refusal>
+    ensures number { numbered result ≡ least (access_rules writes side (tables_of t.entry) ask) }
+    ensures at { IfOk result (λ at. at ≡ word_at (seen side (tables_of t.entry) ask.guest ask.unit ask.address) ask.address) }
 {
     let g = ask.guest;
     let u = ask.unit;
     let a = ask.address;
     let last = Action::GPAGES * Action::PAGE_WORDS;
-    let far = (Action::GUESTS <= g) | ((Action::UNITS <= u) | (last <= a));
-    let early = asker(far, side, present, running, g, u);
-    if early != 0 {
-        return Target {
-            number: early,
-            at: 0,
-        };
-    }
-    let Found::Entry(word) = state::lookup(map, tlb, u, g, addresses::page_of(a)) else {
-        return Target { number: 9, at: 0 };
+    Refusal::OutOfRange.when((Action::GUESTS <= g) | ((Action::UNITS <= u) | (last <= a)))?;
+    Refusal::AbsentGuest.when(parts::absent(t.present, g))?;
+    Refusal::Elsewhere.when(elsewhere(t, side, g, u))?;
+    let page = addresses::page_of(a);
+    let Some(word) = state::lookup(t.map_of(side), t.tlb_of(side), u, g, page) else {
+        return Err(Refusal::NoTranslation);
     };
-    if !allows(word, writes) {
-        return Target { number: 10, at: 0 };
-    }
-    let at = addresses::word_of(entries::page_in(word), addresses::offset_of(a));
-    Target { number: 0, at }
+    Refusal::NotAllowed.when(!allows(word, writes))?;
+    Ok(addresses::word_of(entries::page_in(word), addresses::offset_of(a)))
 }
 
 // 01 Read, 04 DmaRead
-pub fn read<'a>(
-    side: Side,
-    present: &'a [bool],
-    running: &'a [u8],
-    map: &'a [u32],
-    tlb: &'a [u32],
-    ask: Ask,
-    mem: &'a [u64],
-) -> Seen
-    ensures { left result mem.now
-        ≡ served (lent_on present.now running.now map.now tlb.now)
-        (Read side ask.guest ask.unit ask.address) mem.now }
+#[tactic(auto, using(crate::proofs::Answers::refuses_served), unfolding(crate::specs::Lent::number))]
+pub fn read(t: Lent, side: Side, ask: Ask, mem: &[u64]) -> Result<u64, Refusal>
+    ensures { left (seen_of result) mem.now ≡ served (tables_of t.entry) (Read side ask.guest ask.unit ask.address) mem.now }
 {
-    let to = access(false, side, present, running, map, tlb, ask);
-    if to.number != 0 {
-        return Seen::wordless(to.number);
-    }
-    let word = cells::load(mem, to.at);
-    Seen { number: 0, word }
+    let at = access(t, side, ask, false)?;
+    Ok(cells::get_or(mem, at, 0))
 }
 
-// 02 Write, 05 DmaWrite
-pub fn write<'a>(
-    side: Side,
-    present: &'a [bool],
-    running: &'a [u8],
-    map: &'a [u32],
-    tlb: &'a [u32],
-    ask: Ask,
-    word: u64,
-    mem: &mut [u64],
-) -> Seen
-    ensures { left result mem.new
-        ≡ served (lent_on present.now running.now map.now tlb.now)
-        (Write side ask.guest ask.unit ask.address word) mem.old }
+// 02 Write, 05 DmaWrite: no word is handed back.
+#[tactic(auto, using(crate::proofs::Answers::refuses_served), unfolding(crate::specs::Lent::number))]
+pub fn write(t: Lent, side: Side, ask: Ask, word: u64, mem: &mut [u64]) -> Result<u64, Refusal>
+    ensures { left (seen_of result) mem.new ≡ served (tables_of t.entry) (Write side ask.guest ask.unit ask.address word) mem.old }
 {
-    let to = access(true, side, present, running, map, tlb, ask);
-    if to.number != 0 {
-        return Seen::wordless(to.number);
-    }
-    cells::store(mem, to.at, word);
-    Seen::wordless(0)
+    let at = access(t, side, ask, true)?;
+    cells::set(mem, at, word);
+    Ok(0)
 }
 
 // 03 HyperCall: it changes nothing, whatever its word.
-pub fn hyper_call<'a>(present: &'a [bool], running: &'a [u8], g: u8, u: u8, word: u64) -> Seen
-    ensures { (ws : List ℕ) → left result ws
-        ≡ served (lent_on present.now running.now [] []) (HyperCall g u word) ws }
+#[tactic(auto, using(numbers::proofs::Bools::not_is, numbers::proofs::Bools::or_is), unfolding(numbers::specs::Rules::least, numbers::specs::Sizes::guests, numbers::specs::Sizes::units, crate::specs::Lent::number, crate::specs::Lent::served, rules::specs::Actions::next, rules::specs::Actions::does))]
+pub fn hyper_call(t: Lent, g: u8, u: u8, word: u64) -> Result<u64, Refusal>
+    ensures { (ws : List ℕ) → left (seen_of result) ws ≡ served (tables_of t.entry) (HyperCall g u word) ws }
 {
-    let far = (Action::GUESTS <= g) | (Action::UNITS <= u);
-    let number = asker(far, Side::Cpu, present, running, g, u);
-    Seen::wordless(number)
+    Refusal::OutOfRange.when((Action::GUESTS <= g) | (Action::UNITS <= u))?;
+    Refusal::AbsentGuest.when(parts::absent(t.present, g))?;
+    Refusal::Elsewhere.when(elsewhere(t, Side::Cpu, g, u))?;
+    Ok(0)
 }
 
 // The kind chooses. Callers hand over kinds 01 to 05; any other byte is served as 03.
-pub fn by_kind<'a>(
-    present: &'a [bool],
-    running: &'a [u8],
-    map: &'a [u32],
-    tlb: &'a [u32],
-    io_map: &'a [u32],
-    io_tlb: &'a [u32],
-    a: Action,
-    mem: &mut [u64],
-) -> Seen
-    ensures { left result mem.new ≡ served
-        (lent present.now running.now map.now tlb.now io_map.now io_tlb.now)
-        (guest_op a) mem.old }
+pub fn by_kind(t: Lent, a: Action, mem: &mut [u64]) -> Seen
+    ensures { left result mem.new ≡ served (tables_of t.entry) (guest_op a) mem.old }
 {
     let kind = a.kind;
-    let w = a.word;
     let ask = Ask {
         guest: a.guest,
         unit: a.second,
         address: a.address,
     };
-    match kind {
-        0x01 => read(Side::Cpu, present, running, map, tlb, ask, mem),
-        0x02 => write(Side::Cpu, present, running, map, tlb, ask, w, mem),
-        0x04 => read(Side::Iommu, present, running, io_map, io_tlb, ask, mem),
-        0x05 => write(Side::Iommu, present, running, io_map, io_tlb, ask, w, mem),
-        _ => hyper_call(present, running, a.guest, a.second, w),
-    }
+    let answer = match kind {
+        0x01 => read(t, Side::Cpu, ask, mem),
+        0x02 => write(t, Side::Cpu, ask, a.word, mem),
+        0x04 => read(t, Side::Iommu, ask, mem),
+        0x05 => write(t, Side::Iommu, ask, a.word, mem),
+        _ => hyper_call(t, a.guest, a.second, a.word),
+    };
+    Seen::from(answer)
 }

@@ -1,6 +1,5 @@
 // Accesses: kinds 01 to 05 on lent parts of the tables, and who is named in them.
 #![tactic(auto)]
 
-pub mod cells;
 pub mod guests;
 pub mod parts;

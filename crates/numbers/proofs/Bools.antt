@@ -1,6 +1,6 @@
 -- Tests: the two cases, and what a test made of tests says.
 use mathlib.Core.Path.{◌≡◌, refl, sym, ◌∙◌}
-use mathlib.Core.Bool.{Bool, true, false, cond, true≢false}
+use mathlib.Core.Bool.{Bool, true, false, cond, true≢false, not, ◌&&◌, ◌||◌}
 use mathlib.Core.Logic.{◌⊎◌, inl, inr}
 use Prim.Native.Nat.{ℕ}
 use lib.Dec.{eqb}
@@ -123,3 +123,16 @@ pub implied : (a b : Bool) → (a ≡ true → b ≡ true) → (isnt a or b) ≡
 unfolding isnt ◌or◌
 implied true b f = f refl
 implied false b f = refl
+
+-- ── what the code's tests compute to is what definitions say ──
+pub not_is : (a : Bool) → not a ≡ isnt a
+unfolding isnt
+not_is a = refl
+
+pub and_is : (a b : Bool) → (a && b) ≡ (a and b)
+unfolding ◌and◌
+and_is a b = refl
+
+pub or_is : (a b : Bool) → (a || b) ≡ (a or b)
+unfolding ◌or◌
+or_is a b = refl

@@ -1,6 +1,7 @@
 pub mod Bools
 pub mod SearchLaws
 pub mod RulesLaws
+pub mod RefusalLaws
 pub mod AddressLaws
 pub mod EntryLaws
 pub mod FrameLaws

@@ -14,8 +14,8 @@ use Rattle.numbers.proofs.Bools.{split, and-no-l, or_l, or_r, isnt-no, isnt-i}
 use Rattle.numbers.proofs.AddressLaws.{lemma_page_word_roundtrip, offset-below}
 use Rattle.numbers.proofs.EntryLaws.{page-at-unit, access-at-unit, at-unit-live}
 use Rattle.tables.specs.Table.{live, find}
-use Rattle.tables.specs.Wants.{W, has_key}
-use Rattle.tables.specs.State.{map_of, tlb_of, effective_entry, found, nothing, can_read, can_write}
+use Rattle.tables.specs.Wants.{found, W, has_key}
+use Rattle.tables.specs.State.{map_of, tlb_of, effective_entry, nothing, can_read, can_write}
 use Rattle.tables.specs.Wf.{Wf}
 use Rattle.tables.specs.Views.{MachineState, SourceWf, view}
 use Rattle.tables.specs.declared.state.Tables.{Tables}

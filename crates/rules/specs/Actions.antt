@@ -7,7 +7,7 @@
 -- entries for a guest page on every unit.
 --
 -- Numbers 1 and 2 are a call's and 3 a frame's: they stand in front of these (`Calls`).
-use Rattle.std.specs.Prelude.{ℕ, zero, suc, ◌+◌, Bool, true, false, cond, List, eqb, ltb, length, get_or, set}
+use Rattle.std.specs.Prelude.{ℕ, zero, suc, ◌+◌, Bool, true, false, cond, Option, None, Some, List, eqb, ltb, length, get_or, set}
 use Rattle.numbers.specs.Sizes.{guests, units, pages, gpages, accesses, page_words, guest_words}
 use Rattle.numbers.specs.Tests.{◌and◌, ◌or◌, isnt}
 use Rattle.numbers.specs.Rules.{Rules, least}
@@ -23,8 +23,6 @@ use Rattle.tables.specs.State.{nobody, hypervisor, guest, a_guest, is_present, i
 use Rattle.tables.specs.declared.state.Tables.{Tables}
 use Rattle.tables.specs.declared.state.Side.{Side}
 use Rattle.tables.specs.declared.state.Side.TheVariants.{Cpu, Iommu}
-use Rattle.tables.specs.declared.state.Found.{Found}
-use Rattle.tables.specs.declared.state.Found.TheVariants.{Entry, Nothing}
 use Rattle.rules.specs.Parts.{with_present, with_running, with_pairs, with_held, with_walk}
 
 -- ══ what may be asked ══
@@ -58,7 +56,7 @@ abbrev pub elsewhere : Side → Tables → ℕ → ℕ → Bool
 elsewhere d m u g = by_side d (isnt (eqb (running_on m u) (guest g))) false
 
 -- 9, 10: what an access finds, a TLB hit before the map
-abbrev pub seen : Side → Tables → ℕ → ℕ → ℕ → Found
+abbrev pub seen : Side → Tables → ℕ → ℕ → ℕ → Option ℕ
 seen d m g u a = lookup (map_of d m) (tlb_of d m) u g (page_of a)
 
 -- who holds the page, for CPU and for DMA
@@ -232,9 +230,9 @@ pub data Touch : Type 0 where
   Clears : (p : ℕ) → Touch
 
 -- the word of memory that a translation leads to
-abbrev pub word_at : Found → ℕ → ℕ
-word_at (Entry w) a = word_of (page_in w) (offset_of a)
-word_at Nothing a = 0
+abbrev pub word_at : Option ℕ → ℕ → ℕ
+word_at (Some w) a = word_of (page_in w) (offset_of a)
+word_at None a = 0
 
 abbrev pub touch : Tables → Op → Touch
 touch m (Read d g u a) = Reads (word_at (seen d m g u a) a)
