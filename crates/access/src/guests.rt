@@ -1,4 +1,6 @@
 // Kinds 01 to 05 on lent tables, which they leave as they are: no table is moved for them.
+#![tactic(auto, using(numbers::proofs::Bools::not_is, numbers::proofs::Bools::or_is, crate::proofs::Answers::refuses_served), unfolding(numbers::specs::Rules::least, numbers::specs::Sizes::guests, numbers::specs::Sizes::units, numbers::specs::Sizes::gpages, numbers::specs::Sizes::page_words, crate::specs::Lent::number, crate::specs::Lent::served, rules::specs::Actions::next, rules::specs::Actions::does))]
+
 ghost use Rattle.std.specs.Prelude.{◌≡◌, cond, List, ℕ, IfOk};
 ghost use Rattle.numbers.specs.Answers.{seen_of};
 ghost use Rattle.numbers.specs.Refusals.{numbered};
@@ -26,7 +28,6 @@ pub struct Ask {
 }
 
 // 8: the CPU does not run the guest. A stream acts in any guest's name.
-#[tactic(auto, using(numbers::proofs::Bools::not_is))]
 fn elsewhere(t: Lent, side: Side, g: u8, u: u8) -> bool
     ensures { result ≡ elsewhere side (tables_of t.entry) u g }
 {
@@ -48,7 +49,6 @@ fn allows(word: u32, writes: bool) -> bool
 }
 
 // An access through a side's map and TLB: the word of memory that it leads to, or why it is refused.
-#[tactic(auto, using(numbers::proofs::Bools::not_is, numbers::proofs::Bools::or_is), unfolding(numbers::specs::Rules::least, numbers::specs::Sizes::guests, numbers::specs::Sizes::units, numbers::specs::Sizes::gpages, numbers::specs::Sizes::page_words))]
 fn access(t: Lent, side: Side, ask: Ask, writes: bool) -> Result<usize, Refusal>
     ensures number { numbered result ≡ least (access_rules writes side (tables_of t.entry) ask) }
     ensures at { IfOk result (λ at. at ≡ word_at (seen side (tables_of t.entry) ask.guest ask.unit ask.address) ask.address) }
@@ -69,7 +69,6 @@ fn access(t: Lent, side: Side, ask: Ask, writes: bool) -> Result<usize, Refusal>
 }
 
 // 01 Read, 04 DmaRead
-#[tactic(auto, using(crate::proofs::Answers::refuses_served), unfolding(crate::specs::Lent::number))]
 pub fn read(t: Lent, side: Side, ask: Ask, mem: &[u64]) -> Result<u64, Refusal>
     ensures { left (seen_of result) mem.now ≡ served (tables_of t.entry) (Read side ask.guest ask.unit ask.address) mem.now }
 {
@@ -78,7 +77,6 @@ pub fn read(t: Lent, side: Side, ask: Ask, mem: &[u64]) -> Result<u64, Refusal>
 }
 
 // 02 Write, 05 DmaWrite: no word is handed back.
-#[tactic(auto, using(crate::proofs::Answers::refuses_served), unfolding(crate::specs::Lent::number))]
 pub fn write(t: Lent, side: Side, ask: Ask, word: u64, mem: &mut [u64]) -> Result<u64, Refusal>
     ensures { left (seen_of result) mem.new ≡ served (tables_of t.entry) (Write side ask.guest ask.unit ask.address word) mem.old }
 {
@@ -88,7 +86,6 @@ pub fn write(t: Lent, side: Side, ask: Ask, word: u64, mem: &mut [u64]) -> Resul
 }
 
 // 03 HyperCall: it changes nothing, whatever its word.
-#[tactic(auto, using(numbers::proofs::Bools::not_is, numbers::proofs::Bools::or_is), unfolding(numbers::specs::Rules::least, numbers::specs::Sizes::guests, numbers::specs::Sizes::units, crate::specs::Lent::number, crate::specs::Lent::served, rules::specs::Actions::next, rules::specs::Actions::does))]
 pub fn hyper_call(t: Lent, g: u8, u: u8, word: u64) -> Result<u64, Refusal>
     ensures { (ws : List ℕ) → left (seen_of result) ws ≡ served (tables_of t.entry) (HyperCall g u word) ws }
 {

@@ -1,4 +1,6 @@
 // Who is named in lent parts of the tables.
+#![tactic(auto, using(numbers::proofs::Bools::not_is, numbers::proofs::Bools::and_is, crate::proofs::PartLaws::named_any), unfolding(rules::specs::Actions::another))]
+
 ghost use Rattle.std.specs.Prelude.{◌≡◌, false, eqb, get_or};
 ghost use Rattle.numbers.specs.Tests.{isnt};
 ghost use Rattle.tables.specs.State.{guest};
@@ -9,7 +11,6 @@ use numbers::cells;
 use tables::state;
 use tables::state::Tables;
 
-#[tactic(auto, using(numbers::proofs::Bools::not_is))]
 pub fn absent(present: &[bool], g: u8) -> bool
     ensures { result ≡ isnt (get_or present.now g false) }
 {
@@ -31,7 +32,6 @@ pub fn holds(held: &[u8], g: u8, p: u16) -> bool
 }
 
 // A guest holds the page, and it is another one.
-#[tactic(auto, using(numbers::proofs::Bools::not_is, numbers::proofs::Bools::and_is), unfolding(rules::specs::Actions::another))]
 pub fn another(held: &[u8], g: u8, p: u16) -> bool
     ensures { result ≡ another g (get_or held.now p 0) }
 {
@@ -40,7 +40,6 @@ pub fn another(held: &[u8], g: u8, p: u16) -> bool
 }
 
 // Some place of a list of holders names the guest.
-#[tactic(auto, using(crate::proofs::PartLaws::named_any))]
 pub fn named(list: &[u8], g: u8) -> bool
     ensures { result ≡ named (guest g) list.now }
 {

@@ -52,14 +52,14 @@ abbrev pub shared_with : ℕ → ℕ → ℕ → Bool
 shared_with g p q = to_page p q and ends_at g q
 
 abbrev pub meets : Want → ℕ → Bool
-meets (Key k) w = has_key k w
-meets (Everywhere g v) w = everywhere g v w
-meets (Page p) w = to_page p w
-meets (Guest g) w = of_guest g w
-meets (Maps g p) w = maps g p w
-meets (Pair l r p) w = shared_by l r p w
-meets (End g) w = ends_at g w
-meets (Shared g p) w = shared_with g p w
+meets (Key k) = has_key k
+meets (Everywhere g v) = everywhere g v
+meets (Page p) = to_page p
+meets (Guest g) = of_guest g
+meets (Maps g p) = maps g p
+meets (Pair l r p) = shared_by l r p
+meets (End g) = ends_at g
+meets (Shared g p) = shared_with g p
 
 -- ── y stands under the key of x: entries go by their key, pairs by page and ends ──
 abbrev pub same_entry : ℕ → ℕ → Bool

@@ -1,3 +1,1 @@
-pub mod VerdictLaws
-pub mod Places
-pub mod Sided
+pub mod PlaceLaws

@@ -1,7 +1,7 @@
-// Verdicts: what each kind from 10 on is told before anything is done, on lent parts of the tables.
+// Verdicts: what each kind from 10 on is told before anything is done, on lent tables.
 #![tactic(auto)]
 
 pub mod pages;
-pub mod verdict;
+pub mod places;
 pub mod vms;
 pub mod walks;

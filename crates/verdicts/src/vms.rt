@@ -1,66 +1,63 @@
 // Guests and CPUs: kinds 10, 11, 18 and 19.
-ghost use Rattle.std.specs.Prelude.{◌≡◌, []};
-ghost use Rattle.rules.specs.Actions.Op.{AddVm, RemoveVm, ContextSwitch, Idle};
-ghost use Rattle.access.specs.Lent.{number, parts};
+#![tactic(auto, using(numbers::proofs::Bools::not_is, numbers::proofs::Bools::and_is, numbers::proofs::Bools::or_is), unfolding(numbers::specs::Rules::least, access::specs::Lent::number, numbers::specs::Sizes::guests, numbers::specs::Sizes::units))]
 
-use crate::verdict;
+ghost use Rattle.std.specs.Prelude.{◌≡◌};
+ghost use Rattle.numbers.specs.Refusals.{numbered};
+ghost use Rattle.tables.specs.Lent.{tables_of};
+ghost use Rattle.tables.specs.declared.state.Tables.{Tables};
+ghost use Rattle.rules.specs.Actions.{in_use};
+ghost use Rattle.rules.specs.Actions.Op.{AddVm, RemoveVm, ContextSwitch, Idle};
+ghost use Rattle.access.specs.Lent.{number};
+
 use access::parts;
-use numbers::frames;
+use numbers::cells;
 use numbers::frames::Action;
+use numbers::refusals::Refusal;
+use tables::search;
 use tables::search::Want;
-use tables::state::Tables;
-use tables::{search, state};
+use tables::state::Lent;
 
 // 10
-pub fn add_vm(present: &[bool; Tables::GUESTS], g: u8) -> u8
-    ensures { result ≡ number (parts [] [] [] [] [] [] [] [] present.now []) (AddVm g) }
+pub fn add_vm(t: Lent, g: u8) -> Result<(), Refusal>
+    ensures { numbered result ≡ number (tables_of t.entry) (AddVm g) }
 {
-    let here = state::flag(present, g as usize);
-    frames::rule(Action::GUESTS <= g, 4, frames::rule(here, 7, 0))
+    Refusal::OutOfRange.when(Action::GUESTS <= g)?;
+    Refusal::PresentGuest.when(cells::get_or(t.present, g as usize, false))
+}
+
+// Something of the tables names the guest.
+fn in_use(t: Lent, g: u8) -> bool
+    ensures { result ≡ in_use (tables_of t.entry) g }
+{
+    parts::named(t.holder, g)
+        | (parts::named(t.dma, g)
+            | (search::has(t.map, Want::Guest(g))
+                | (search::has(t.io_map, Want::Guest(g))
+                    | (search::has(t.tlb, Want::Guest(g))
+                        | (search::has(t.io_tlb, Want::Guest(g))
+                            | (search::has(t.pairs, Want::End(g)) | parts::named(t.running, g)))))))
 }
 
 // 11
-pub fn remove_vm<'a>(
-    map: &'a [u32; Tables::MAP_ROOM],
-    tlb: &'a [u32; Tables::TLB_ROOM],
-    io_map: &'a [u32; Tables::MAP_ROOM],
-    io_tlb: &'a [u32; Tables::TLB_ROOM],
-    pairs: &'a [u32; Tables::PAIR_ROOM],
-    holder: &'a [u8; Tables::PAGES],
-    dma: &'a [u8; Tables::PAGES],
-    present: &'a [bool; Tables::GUESTS],
-    running: &'a [u8; Tables::UNITS],
-    g: u8,
-) -> u8
-    ensures { result ≡ number (parts map.now tlb.now io_map.now io_tlb.now pairs.now
-        holder.now dma.now [] present.now running.now) (RemoveVm g) }
+pub fn remove_vm(t: Lent, g: u8) -> Result<(), Refusal>
+    ensures { numbered result ≡ number (tables_of t.entry) (RemoveVm g) }
 {
-    let early = verdict::head(Action::GUESTS <= g, parts::absent(present, g));
-    if early != 0 {
-        return early;
-    }
-    // something of the tables names the guest
-    let used = parts::named(holder, g)
-        | (parts::named(dma, g)
-            | (search::has(map, Want::Guest(g))
-                | (search::has(io_map, Want::Guest(g))
-                    | (search::has(tlb, Want::Guest(g))
-                        | (search::has(io_tlb, Want::Guest(g))
-                            | (search::has(pairs, Want::End(g)) | parts::named(running, g)))))));
-    frames::rule(used, 13, 0)
+    Refusal::OutOfRange.when(Action::GUESTS <= g)?;
+    Refusal::AbsentGuest.when(parts::absent(t.present, g))?;
+    Refusal::StillInUse.when(in_use(t, g))
 }
 
 // 18
-pub fn context_switch(present: &[bool; Tables::GUESTS], g: u8, u: u8) -> u8
-    ensures { result ≡ number (parts [] [] [] [] [] [] [] [] present.now []) (ContextSwitch g u) }
+pub fn context_switch(t: Lent, g: u8, u: u8) -> Result<(), Refusal>
+    ensures { numbered result ≡ number (tables_of t.entry) (ContextSwitch g u) }
 {
-    let far = (Action::GUESTS <= g) | (Action::UNITS <= u);
-    verdict::head(far, parts::absent(present, g))
+    Refusal::OutOfRange.when((Action::GUESTS <= g) | (Action::UNITS <= u))?;
+    Refusal::AbsentGuest.when(parts::absent(t.present, g))
 }
 
 // 19
-pub fn idle(u: u8) -> u8
-    ensures { result ≡ number (parts [] [] [] [] [] [] [] [] [] []) (Idle u) }
+pub fn idle(u: u8) -> Result<(), Refusal>
+    ensures { (m : Tables) → numbered result ≡ number m (Idle u) }
 {
-    frames::rule(Action::UNITS <= u, 4, 0)
+    Refusal::OutOfRange.when(Action::UNITS <= u)
 }

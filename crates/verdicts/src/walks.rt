@@ -1,120 +1,77 @@
-// Maps and TLBs, of CPUs and of the IOMMU alike: kinds 16, 17, 1a, 1b and 22 to 25. Each is lent the map and the TLB of its side; where
-// the rule is the same on both, the contract says it of the CPUs'.
-ghost use Rattle.std.specs.Prelude.{◌≡◌, []};
-ghost use Rattle.numbers.specs.Rules.Rules.{accept, ◌⇒◌∣◌};
-ghost use Rattle.numbers.specs.Search.{first};
-ghost use Rattle.numbers.specs.Tests.{isnt};
-ghost use Rattle.numbers.specs.Entries.{key_of, entry, at_unit};
-ghost use Rattle.tables.specs.Table.{hit, find, has, no_room, seat};
-ghost use Rattle.tables.specs.Wants.{W, has_key};
-ghost use Rattle.tables.specs.declared.state.Side.TheVariants.{Cpu};
-ghost use Rattle.rules.specs.Actions.{refusals};
-ghost use Rattle.rules.specs.Actions.Op.{Map, Unmap, Fill, Drop};
-ghost use Rattle.access.specs.Lent.{parts, lent_on};
-ghost use Rattle.verdicts.specs.Verdicts.{verdict};
+// Maps and TLBs, of CPUs and of the IOMMU alike: kinds 16, 17, 1a, 1b and 22 to 25.
+#![tactic(auto, using(numbers::proofs::Bools::not_is, numbers::proofs::Bools::and_is, numbers::proofs::Bools::or_is), unfolding(numbers::specs::Rules::least, access::specs::Lent::number, numbers::specs::Sizes::guests, numbers::specs::Sizes::gpages, numbers::specs::Sizes::pages, numbers::specs::Sizes::accesses, numbers::specs::Sizes::units))]
 
-use crate::verdict;
-use crate::verdict::Verdict;
+ghost use Rattle.std.specs.Prelude.{◌≡◌, IfOk};
+ghost use Rattle.numbers.specs.Refusals.{numbered};
+ghost use Rattle.numbers.specs.Search.{first};
+ghost use Rattle.numbers.specs.Entries.{key_of, at_unit};
+ghost use Rattle.tables.specs.Lent.{tables_of};
+ghost use Rattle.tables.specs.State.{map_of, tlb_of};
+ghost use Rattle.tables.specs.Table.{hit, find, seat};
+ghost use Rattle.tables.specs.Wants.{W, has_key};
+ghost use Rattle.rules.specs.Actions.Op.{Map, Unmap, Fill, Drop};
+ghost use Rattle.access.specs.Lent.{number};
+
+use crate::places;
 use access::parts;
 use numbers::entries;
 use numbers::frames::Action;
+use numbers::refusals::Refusal;
 use tables::search::Want;
-use tables::state::{Side, Tables};
-use tables::{search, state};
+use tables::state::{Lent, Side};
 
-// 16, 22: by the side's holders, too.
-pub fn map<'a>(
-    side: Side,
-    g: u8,
-    v: u16,
-    p: u16,
-    x: u8,
-    present: &'a [bool; Tables::GUESTS],
-    held: &'a [u8; Tables::PAGES],
-    pairs: &'a [u32; Tables::PAIR_ROOM],
-    region: &'a [bool; Tables::PAGES],
-    map: &'a [u32; Tables::MAP_ROOM],
-) -> Verdict
-    ensures { result ≡ verdict (refusals (parts map.now [] map.now [] pairs.now held.now held.now
-        region.now present.now []) (Map side g v p x)) (seat W (has_key (key_of 0 g v)) map.now) (entry 0 g v p x) }
+// 16, 22: where the entry goes.
+pub fn map(t: Lent, side: Side, g: u8, v: u16, p: u16, x: u8) -> Result<usize, Refusal>
+    ensures number { numbered result ≡ number (tables_of t.entry) (Map side g v p x) }
+    ensures at { IfOk result (λ at. at ≡ seat W (has_key (key_of 0 g v)) (map_of side (tables_of t.entry))) }
 {
     let far = (Action::GUESTS <= g)
         | ((Action::GPAGES <= v) | ((Action::PAGES <= p) | (Action::ACCESSES <= x)));
-    let early = verdict::head(far, parts::absent(present, g));
-    if early != 0 {
-        return Verdict::refused(early);
-    }
-    if !state::reach(side, held, pairs, region, g, p) {
-        return Verdict::refused(11);
-    }
-    verdict::seated(map, entries::key_of(0, g, v), entries::entry(0, g, v, p, x))
+    Refusal::OutOfRange.when(far)?;
+    Refusal::AbsentGuest.when(parts::absent(t.present, g))?;
+    Refusal::NotHeld.when(!t.may_reach(side, g, p))?;
+    places::seated(t.map_of(side), entries::key_of(0, g, v))
 }
 
-// 17, 23
-pub fn unmap<'a>(
-    g: u8,
-    v: u16,
-    present: &'a [bool; Tables::GUESTS],
-    map: &'a [u32; Tables::MAP_ROOM],
-) -> Verdict
-    ensures { result ≡ verdict (refusals (lent_on present.now [] map.now []) (Unmap Cpu g v))
-        (first (hit W (has_key (key_of 0 g v))) map.now) 0 }
+// 17, 23: where the entry stands.
+pub fn unmap(t: Lent, side: Side, g: u8, v: u16) -> Result<usize, Refusal>
+    ensures number { numbered result ≡ number (tables_of t.entry) (Unmap side g v) }
+    ensures at { IfOk result (λ at. at ≡ first (hit W (has_key (key_of 0 g v))) (map_of side (tables_of t.entry))) }
 {
-    let far = (Action::GUESTS <= g) | (Action::GPAGES <= v);
-    let early = verdict::head(far, parts::absent(present, g));
-    if early != 0 {
-        return Verdict::refused(early);
-    }
-    verdict::standing(map, Want::Key(entries::key_of(0, g, v)))
+    Refusal::OutOfRange.when((Action::GUESTS <= g) | (Action::GPAGES <= v))?;
+    Refusal::AbsentGuest.when(parts::absent(t.present, g))?;
+    places::standing(t.map_of(side), Want::Key(entries::key_of(0, g, v)))
 }
 
-// 9 and 15, or where the copy of the map's entry goes.
-fn cached<'a>(map: &'a [u32], tlb: &'a [u32], g: u8, u: u8, v: u16) -> Verdict
-    ensures { result ≡ verdict (isnt (has W (has_key (key_of 0 g v)) map.now) ⇒ 9 ∣ no_room W (has_key (key_of u g v)) tlb.now ⇒ 15 ∣ accept)
-        (seat W (has_key (key_of u g v)) tlb.now) (at_unit u (find W (has_key (key_of 0 g v)) map.now)) }
-{
-    let home = search::find(map, entries::key_of(0, g, v));
-    if home == 0 {
-        return Verdict::refused(9);
-    }
-    verdict::seated(tlb, entries::key_of(u, g, v), entries::at_unit(u, home))
+// A row, and where it goes.
+#[derive(Clone, Copy, Debug, PartialEq, Eq)]
+pub struct Row {
+    pub at: usize,
+    pub word: u32,
 }
 
-// 1a, 24
-pub fn fill<'a>(
-    g: u8,
-    u: u8,
-    v: u16,
-    present: &'a [bool; Tables::GUESTS],
-    map: &'a [u32; Tables::MAP_ROOM],
-    tlb: &'a [u32; Tables::TLB_ROOM],
-) -> Verdict
-    ensures { result ≡ verdict (refusals (lent_on present.now [] map.now tlb.now) (Fill Cpu g u v))
-        (seat W (has_key (key_of u g v)) tlb.now) (at_unit u (find W (has_key (key_of 0 g v)) map.now)) }
+// 1a, 24: the copy of the map's entry.
+pub fn fill(t: Lent, side: Side, g: u8, u: u8, v: u16) -> Result<Row, Refusal>
+    ensures number { numbered result ≡ number (tables_of t.entry) (Fill side g u v) }
+    ensures row { IfOk result (λ row. (row.at ≡ seat W (has_key (key_of u g v)) (tlb_of side (tables_of t.entry)))
+        × (row.word ≡ at_unit u (find W (has_key (key_of 0 g v)) (map_of side (tables_of t.entry))))) }
 {
     let far = (Action::GUESTS <= g) | ((Action::UNITS <= u) | (Action::GPAGES <= v));
-    let early = verdict::head(far, parts::absent(present, g));
-    if early != 0 {
-        return Verdict::refused(early);
-    }
-    cached(map, tlb, g, u, v)
+    Refusal::OutOfRange.when(far)?;
+    Refusal::AbsentGuest.when(parts::absent(t.present, g))?;
+    let home = places::home(t.map_of(side), entries::key_of(0, g, v))?;
+    let at = places::seated(t.tlb_of(side), entries::key_of(u, g, v))?;
+    let word = entries::at_unit(u, home);
+    Ok(Row { at, word })
 }
 
-// 1b, 25
-pub fn drop<'a>(
-    g: u8,
-    u: u8,
-    v: u16,
-    present: &'a [bool; Tables::GUESTS],
-    tlb: &'a [u32; Tables::TLB_ROOM],
-) -> Verdict
-    ensures { result ≡ verdict (refusals (lent_on present.now [] [] tlb.now) (Drop Cpu g u v))
-        (first (hit W (has_key (key_of u g v))) tlb.now) 0 }
+// 1b, 25: where the copy stands.
+pub fn drop(t: Lent, side: Side, g: u8, u: u8, v: u16) -> Result<usize, Refusal>
+    ensures number { numbered result ≡ number (tables_of t.entry) (Drop side g u v) }
+    ensures at { IfOk result (λ at. at ≡ first (hit W (has_key (key_of u g v))) (tlb_of side (tables_of t.entry))) }
 {
     let far = (Action::GUESTS <= g) | ((Action::UNITS <= u) | (Action::GPAGES <= v));
-    let early = verdict::head(far, parts::absent(present, g));
-    if early != 0 {
-        return Verdict::refused(early);
-    }
-    verdict::standing(tlb, Want::Key(entries::key_of(u, g, v)))
+    Refusal::OutOfRange.when(far)?;
+    Refusal::AbsentGuest.when(parts::absent(t.present, g))?;
+    places::standing(t.tlb_of(side), Want::Key(entries::key_of(u, g, v)))
 }
