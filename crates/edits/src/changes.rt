@@ -1,81 +1,57 @@
-// Changes of one part of the tables, or of memory, in place: made where the number is 0, and else not.
-ghost use Rattle.std.specs.Prelude.{◌≡◌, cond, eqb, set};
-ghost use Rattle.tables.specs.Wants.{invalidated};
+// Changes of one part of the tables, or of memory, in place.
+ghost use Rattle.std.specs.Prelude.{◌≡◌, set};
+ghost use Rattle.tables.specs.State.{map_of, tlb_of, held_on};
+ghost use Rattle.tables.specs.Steps.{wipe_from};
+ghost use Rattle.tables.specs.Wants.{W, meets};
 ghost use Rattle.rules.specs.Actions.{clear_page};
-ghost use Rattle.edits.specs.Edits.{stored, freed, who_is};
+ghost use Rattle.rules.specs.Parts.{with_held, with_walk};
+ghost use Rattle.edits.specs.Edits.{who_is};
 
-use access::cells;
-use numbers::addresses;
 use numbers::frames::Action;
+use numbers::{addresses, cells};
 use tables::search;
 use tables::search::Want;
-use tables::state::Tables;
-use verdicts::verdict::Verdict;
+use tables::state::{Side, Tables};
 
-// ── rows: an array has a function for each length ──
-fn store(rows: &mut [u32], v: Verdict)
-    ensures { rows.new ≡ stored v rows.old }
+// ── a side's map and TLB ──
+pub fn set_map_row(t: &mut Tables, side: Side, at: usize, word: u32)
+    ensures { t.new ≡ with_walk side t.old (set (map_of side t.old) at word) (tlb_of side t.old) }
 {
-    if v.number == 0 {
-        search::set_row(rows, v.at, v.row);
+    match side {
+        Side::Cpu => cells::set(&mut t.map, at, word),
+        Side::Iommu => cells::set(&mut t.io_map, at, word),
     }
 }
 
-pub fn store_map(map: &mut [u32; Tables::MAP_ROOM], v: Verdict)
-    ensures { map.new ≡ stored v map.old }
+pub fn set_tlb_row(t: &mut Tables, side: Side, at: usize, word: u32)
+    ensures { t.new ≡ with_walk side t.old (map_of side t.old) (set (tlb_of side t.old) at word) }
 {
-    store(map, v);
-}
-
-pub fn store_tlb(tlb: &mut [u32; Tables::TLB_ROOM], v: Verdict)
-    ensures { tlb.new ≡ stored v tlb.old }
-{
-    store(tlb, v);
-}
-
-pub fn store_pair(pairs: &mut [u32; Tables::PAIR_ROOM], v: Verdict)
-    ensures { pairs.new ≡ stored v pairs.old }
-{
-    store(pairs, v);
-}
-
-// The rows that are looked for, from the verdict's place on.
-fn free(rows: &mut [u32], v: Verdict, want: Want)
-    ensures { rows.new ≡ freed v want rows.old }
-{
-    if v.number == 0 {
-        search::wipe_from(rows, v.at, want);
+    match side {
+        Side::Cpu => cells::set(&mut t.tlb, at, word),
+        Side::Iommu => cells::set(&mut t.io_tlb, at, word),
     }
 }
 
-pub fn free_map(map: &mut [u32; Tables::MAP_ROOM], v: Verdict, want: Want)
-    ensures { map.new ≡ freed v want map.old }
+// The rows that are looked for, from a place on.
+pub fn wipe_map(t: &mut Tables, side: Side, from: usize, want: Want)
+    ensures { t.new ≡ with_walk side t.old (wipe_from W (meets want) from (map_of side t.old)) (tlb_of side t.old) }
 {
-    free(map, v, want);
-}
-
-pub fn free_tlb(tlb: &mut [u32; Tables::TLB_ROOM], v: Verdict, want: Want)
-    ensures { tlb.new ≡ freed v want tlb.old }
-{
-    free(tlb, v, want);
-}
-
-pub fn free_pair(pairs: &mut [u32; Tables::PAIR_ROOM], v: Verdict, want: Want)
-    ensures { pairs.new ≡ freed v want pairs.old }
-{
-    free(pairs, v, want);
-}
-
-// The guest's entries for the guest page, on every unit.
-pub fn invalidate(tlb: &mut [u32; Tables::TLB_ROOM], number: u8, g: u8, v: u16)
-    ensures { tlb.new ≡ cond (eqb number 0) (invalidated g v tlb.old) tlb.old }
-{
-    if number == 0 {
-        search::invalidate(tlb, g, v);
+    match side {
+        Side::Cpu => search::wipe_from(&mut t.map, from, want),
+        Side::Iommu => search::wipe_from(&mut t.io_map, from, want),
     }
 }
 
-// ── who holds or runs, and who is present ──
+pub fn wipe_tlb(t: &mut Tables, side: Side, from: usize, want: Want)
+    ensures { t.new ≡ with_walk side t.old (map_of side t.old) (wipe_from W (meets want) from (tlb_of side t.old)) }
+{
+    match side {
+        Side::Cpu => search::wipe_from(&mut t.tlb, from, want),
+        Side::Iommu => search::wipe_from(&mut t.io_tlb, from, want),
+    }
+}
+
+// ── who holds or runs ──
 // The number of a guest among those who hold or run; of one out of range nobody's.
 pub fn holder(g: u8) -> u8
     ensures { result ≡ who_is g }
@@ -87,50 +63,22 @@ pub fn holder(g: u8) -> u8
     }
 }
 
-fn set(list: &mut [u8], number: u8, at: usize, who: u8)
-    ensures { list.new ≡ cond (eqb number 0) (set list.old at who) list.old }
+// The page's holder on a side.
+pub fn set_holder(t: &mut Tables, side: Side, p: u16, who: u8)
+    ensures { t.new ≡ with_held side t.old (set (held_on side t.old) p who) }
 {
-    if number == 0 {
-        cells::set_byte(list, at, who);
-    }
-}
-
-pub fn hold(held: &mut [u8; Tables::PAGES], number: u8, p: u16, who: u8)
-    ensures { held.new ≡ cond (eqb number 0) (set held.old p who) held.old }
-{
-    set(held, number, p as usize, who);
-}
-
-pub fn occupy(units: &mut [u8; Tables::UNITS], number: u8, u: u8, who: u8)
-    ensures { units.new ≡ cond (eqb number 0) (set units.old u who) units.old }
-{
-    set(units, number, u as usize, who);
-}
-
-pub fn mark(present: &mut [bool; Tables::GUESTS], number: u8, g: u8, here: bool)
-    ensures { present.new ≡ cond (eqb number 0) (set present.old g here) present.old }
-{
-    if number == 0 {
-        cells::set_flag(present, g as usize, here);
+    match side {
+        Side::Cpu => cells::set(&mut t.holder, p as usize, who),
+        Side::Iommu => cells::set(&mut t.dma, p as usize, who),
     }
 }
 
 // ── words of memory ──
 // All words of a page become 0.
-fn clear_page(mem: &mut [u64], p: u16)
+pub fn clear_page(mem: &mut [u64], p: u16)
     ensures { mem.new ≡ clear_page p mem.old }
 {
-    let mut n: u16 = 0;
-    while n < Action::PAGE_WORDS {
-        cells::store(mem, addresses::word_of(p, n), 0);
-        n += 1;
-    }
-}
-
-pub fn clear(mem: &mut [u64], wanted: bool, p: u16)
-    ensures { mem.new ≡ cond wanted (clear_page p mem.old) mem.old }
-{
-    if wanted {
-        clear_page(mem, p);
+    for n in 0..Action::PAGE_WORDS {
+        cells::set(mem, addresses::word_of(p, n), 0);
     }
 }

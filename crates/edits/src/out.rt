@@ -1,8 +1,10 @@
 // The answer, and the tables beside it.
 ghost use Rattle.std.specs.Prelude.{◌≡◌};
 ghost use Rattle.numbers.specs.Answers.{wordless};
+ghost use Rattle.numbers.specs.Refusals.{number_of};
 
 use numbers::answers::Seen;
+use numbers::refusals::Refusal;
 use tables::state::Tables;
 
 #[derive(Clone, Copy)]
@@ -18,10 +20,17 @@ impl Out {
         Out { seen, tables }
     }
 
-    // Every refusal, and every action that reads nothing.
-    pub fn wordless(tables: Tables, number: u8) -> Out
-        ensures { result ≡ record { seen = wordless number; tables = tables } }
+    // Done, with no word to hand back.
+    pub fn accepted(tables: Tables) -> Out
+        ensures { result ≡ record { seen = wordless 0; tables = tables } }
     {
-        Out::beside(tables, Seen::wordless(number))
+        Out::beside(tables, Seen::accepted())
+    }
+
+    // The tables are those from before.
+    pub fn refused(tables: Tables, refusal: Refusal) -> Out
+        ensures { result ≡ record { seen = wordless (number_of refusal); tables = tables } }
+    {
+        Out::beside(tables, Seen::refused(refusal))
     }
 }

@@ -13,7 +13,7 @@ use Rattle.tables.specs.Table.{hit, find, has, full, no_room, seat}
 use Rattle.tables.specs.Wants.{W, found}
 use Rattle.tables.proofs.TableLaws.{no-room-seat, live-find}
 use Rattle.tables.proofs.WantLaws.{found-some, found-none}
-use Rattle.numbers.proofs.Bools.{isnt-i, isnt-no}
+use Rattle.numbers.proofs.Bools.{split, cond-true, cond-false, isnt-i, isnt-no}
 use Rattle.verdicts.specs.Places.{new_place}
 
 module _ (k : ℕ → Bool) (t : List ℕ) (e : Refusal) {q : Result ℕ Refusal} where
@@ -63,3 +63,13 @@ pub asked_first : (stands leant : Bool) → ◌≡◌ {A = ℕ} (cond (stands an
 unfolding ◌and◌ isnt
 asked_first true leant = refl
 asked_first false leant = refl
+
+-- and back
+module _ (k : ℕ → Bool) (t : List ℕ) where
+  pub nowhere : None ≡ new_place k t → has W k t ≡ true
+  nowhere e = split (has W k t) (λ h. h) (λ h. let f : None ≡ Some (first W.free t) = e ∙ cond-false h _ _ in absurd (cc))
+
+  pub somewhere : {at : ℕ} → Some at ≡ new_place k t → (has W k t ≡ false) × (at ≡ first W.free t)
+  somewhere {at} e = split (has W k t)
+      (λ h. let f : Some at ≡ None = e ∙ cond-true h _ _ in absurd (cc))
+      (λ h. let f : Some at ≡ Some (first W.free t) = e ∙ cond-false h _ _ in (h, cc))

@@ -1,14 +1,13 @@
 -- `holdings::Holdings::add_vm` meets its contract.
-use Prim.Native.Nat.{ℕ}
 use mathlib.Core.List.{List}
-use mathlib.Core.Path.{refl}
+use mathlib.Core.Path.{refl, ap}
+use Prim.Native.Nat.{ℕ}
 use Rattle.rules.specs.Parts.{with_present}
-use Rattle.rules.specs.Actions.Op.{AddVm}
-use Rattle.access.specs.Lent.{number}
-use Rattle.edits.proofs.Settled.{settled}
+use Rattle.edits.proofs.Answered.{refused_out, accepted_out}
 use Rattle.holdings.proofs.Holdings.add_vm.Goals as goal
 
+pub returns-in-Err : goal.returns-in-Err
+returns-in-Err c = refused_out _ _ _ c.refused.ensures c.lend.ensures c.in-Err.ensures
+
 pub returns : goal.returns
-unfolding number
-returns c = let t = c.args in
-    λ (ws : List ℕ). settled t.self.tables (AddVm t.g) c.add_vm-number.ensures (with_present t.self.tables) _ refl refl c.mark.ensures ws refl refl c.wordless.ensures
+returns c = λ (ws : List ℕ). accepted_out _ _ c.accepted.ensures c.lend.ensures c.in_default.ensures (ap (with_present c.args.self.tables) c.set.ensures) ws refl refl

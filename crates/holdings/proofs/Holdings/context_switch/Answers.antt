@@ -1,19 +1,15 @@
 -- `holdings::Holdings::context_switch` meets its contract.
-use Prim.Native.Nat.{ℕ}
 use mathlib.Core.List.{List}
-use mathlib.Core.Path.{refl}
+use mathlib.Core.Path.{refl, ap, ◌∙◌}
+use Prim.Native.Nat.{ℕ}
 use Rattle.rules.specs.Parts.{with_running}
-use Rattle.rules.specs.Actions.Op.{ContextSwitch}
-use Rattle.access.specs.Lent.{number}
-use Rattle.access.proofs.Answers.{guest-below}
-use Rattle.edits.proofs.Settled.{settled, with-guest}
+use Rattle.edits.proofs.Answered.{holder_is}
+use Rattle.edits.proofs.Answered.{refused_out, accepted_out}
 use Rattle.holdings.proofs.Holdings.context_switch.Goals as goal
 
+pub returns-in-Err : goal.returns-in-Err
+returns-in-Err c = refused_out _ _ _ c.refused.ensures c.lend.ensures c.in-Err.ensures
+
 pub returns : goal.returns
-unfolding number
-returns c = let t = c.args in
-    let m = t.self.tables in
-    let o = ContextSwitch t.g t.u in
-    λ (ws : List ℕ). settled m o c.context_switch-number.ensures (with_running m) _ refl refl
-    (with-guest _ t.g t.u _ m.running (λ z. guest-below m o c.context_switch-number.ensures z t.g _ refl) c.holder.ensures c.occupy.ensures) ws refl refl
-    c.wordless.ensures
+returns c = λ (ws : List ℕ). accepted_out _ _ c.accepted.ensures c.lend.ensures c.in_default.ensures
+    (ap (with_running c.args.self.tables) (c.set.ensures ∙ rw (holder_is c.args.self.tables _ c.lend.ensures c.in_default.ensures c.args.g _ refl c.holder.ensures))) ws refl refl

@@ -1,14 +1,13 @@
 -- `holdings::Holdings::idle` meets its contract.
-use Prim.Native.Nat.{ℕ}
 use mathlib.Core.List.{List}
-use mathlib.Core.Path.{refl}
+use mathlib.Core.Path.{refl, ap}
+use Prim.Native.Nat.{ℕ}
 use Rattle.rules.specs.Parts.{with_running}
-use Rattle.rules.specs.Actions.Op.{Idle}
-use Rattle.access.specs.Lent.{number}
-use Rattle.edits.proofs.Settled.{settled}
+use Rattle.edits.proofs.Answered.{refused_out, accepted_out}
 use Rattle.holdings.proofs.Holdings.idle.Goals as goal
 
+pub returns-in-Err : goal.returns-in-Err
+returns-in-Err c = refused_out _ _ _ c.refused.ensures refl (c.in-Err.ensures c.args.self.tables)
+
 pub returns : goal.returns
-unfolding number
-returns c = let t = c.args in
-    λ (ws : List ℕ). settled t.self.tables (Idle t.u) c.idle-number.ensures (with_running t.self.tables) _ refl refl c.occupy.ensures ws refl refl c.wordless.ensures
+returns c = λ (ws : List ℕ). accepted_out _ _ c.accepted.ensures refl (c.in_default.ensures c.args.self.tables) (ap (with_running c.args.self.tables) c.set.ensures) ws refl refl

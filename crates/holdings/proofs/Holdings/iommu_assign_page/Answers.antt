@@ -1,24 +1,27 @@
 -- `holdings::Holdings::iommu_assign_page` meets its contract.
-use mathlib.Core.Path.{refl, ◌∙◌}
-use borrow.Author.Tests.{ne_eqb}
-use Rattle.tables.specs.declared.state.Side.TheVariants.{Iommu}
+use mathlib.Core.Bool.{true, false}
+use mathlib.Core.Path.{◌≡◌, refl, sym, ◌∙◌, subst}
 use Rattle.numbers.specs.Tests.{◌or◌}
-use Rattle.rules.specs.Parts.{with_held}
+use Rattle.tables.specs.declared.state.Tables.{Tables}
 use Rattle.rules.specs.Actions.{holds, dma_holds}
-use Rattle.rules.specs.Actions.Op.{IommuAssignPage}
-use Rattle.access.specs.Lent.{number}
-use Rattle.access.proofs.Answers.{guest-below}
-use Rattle.edits.proofs.Settled.{settled_on, with-guest, cleared-or-kept, nothing-back}
+use Rattle.edits.proofs.Answered.{holder_is}
+use Rattle.numbers.proofs.Bools.{cond-true, cond-false}
+use Rattle.edits.proofs.Answered.{refused_out, accepted_with}
 use Rattle.holdings.proofs.Holdings.iommu_assign_page.Goals as goal
 
+pub returns-in-Err : goal.returns-in-Err
+returns-in-Err c = refused_out _ _ _ c.refused.ensures c.lend.ensures c.in-Err.ensures _
+
+pub returns-then-keep : goal.returns-then-keep
+returns-then-keep c =
+    let m = c.args.self.tables in
+    let held = subst (λ (t : Tables). (dma_holds t c.args.g c.args.p or holds t c.args.g c.args.p) ≡ true) c.lend-2.ensures (sym c.held_already-keep.ensures ∙ c.if-keep.true) in
+    accepted_with _ _ c.accepted.ensures c.lend.ensures c.in_default.ensures
+    (c.set_holder.ensures ∙ rw (holder_is m _ c.lend.ensures c.in_default.ensures c.args.g _ refl c.holder.ensures)) (sym (cond-true held _ _)) _ refl refl
+
 pub returns : goal.returns
-unfolding number
-returns c = let t = c.args in
-    let m = t.self.tables in
-    let o = IommuAssignPage t.g t.p in
-    let e = c.iommu_assign_page-number.ensures in
-    let keep = dma_holds m t.g t.p or holds m t.g t.p in
-    settled_on m o e (with_held Iommu m) _ refl refl
-    (with-guest _ t.g t.p _ m.dma (λ z. guest-below m o e z t.g _ refl) c.holder.ensures c.hold.ensures)
-    t.mem.now (nothing-back keep t.p t.mem.now)
-    (λ z. c.clear.ensures ∙ rw c.held_already-keep.ensures (cleared-or-kept _ keep t.p t.mem.now z)) (λ h. c.clear.ensures ∙ rw (ne_eqb _ 0 h)) c.wordless.ensures
+returns c =
+    let m = c.args.self.tables in
+    let new = subst (λ (t : Tables). (dma_holds t c.args.g c.args.p or holds t c.args.g c.args.p) ≡ false) c.lend-2.ensures (sym c.held_already-keep.ensures ∙ c.if-keep.false) in
+    accepted_with _ _ c.accepted-2.ensures c.lend.ensures c.in_default.ensures
+    (c.set_holder.ensures ∙ rw (holder_is m _ c.lend.ensures c.in_default.ensures c.args.g _ refl c.holder.ensures)) (sym (cond-false new _ _)) _ refl c.clear_page.ensures

@@ -1,16 +1,6 @@
 -- `holdings::Holdings::reclaim_page` meets its contract.
-use Prim.Native.Nat.{ℕ}
-use mathlib.Core.List.{List}
-use mathlib.Core.Path.{refl}
-use Rattle.tables.specs.declared.state.Side.TheVariants.{Cpu}
-use Rattle.rules.specs.Parts.{with_held}
-use Rattle.rules.specs.Actions.Op.{ReclaimPage}
-use Rattle.access.specs.Lent.{number}
-use Rattle.edits.proofs.Settled.{settled}
+use Rattle.edits.proofs.Answered.{refused_out}
 use Rattle.holdings.proofs.Holdings.reclaim_page.Goals as goal
 
-pub returns : goal.returns
-unfolding number
-returns c = let t = c.args in
-    λ (ws : List ℕ). settled t.self.tables (ReclaimPage t.g t.p) c.reclaim_page-number.ensures (with_held Cpu t.self.tables) _ refl refl c.hold.ensures ws refl refl
-    c.wordless.ensures
+pub returns-in-Err : goal.returns-in-Err
+returns-in-Err c = refused_out _ _ _ c.refused.ensures c.lend.ensures c.in-Err.ensures

@@ -1,17 +1,30 @@
 -- `holdings::Holdings::share_page` meets its contract.
-use Prim.Native.Nat.{ℕ}
 use mathlib.Core.List.{List}
-use mathlib.Core.Path.{refl}
+use mathlib.Core.Path.{refl, sym, ap, ◌∙◌}
+use Prim.Native.Nat.{ℕ}
 use Rattle.rules.specs.Parts.{with_pairs}
-use Rattle.rules.specs.Actions.Op.{SharePage}
-use Rattle.access.specs.Lent.{number}
-use Rattle.edits.proofs.Settled.{settled, number_of, stored_there, joined}
+use Rattle.numbers.proofs.Bools.{cond-true, cond-false}
+use Rattle.tables.specs.Table.{place}
+use Rattle.tables.specs.declared.state.Tables.{Tables}
+use Rattle.verdicts.proofs.PlaceLaws.{nowhere, somewhere}
+use Rattle.edits.proofs.Answered.{refused_out, accepted_out}
 use Rattle.holdings.proofs.Holdings.share_page.Goals as goal
 
-pub returns : goal.returns
-unfolding number
-returns c = let t = c.args in
-    let m = t.self.tables in
-    let e = c.share_page-v.ensures in
-    λ (ws : List ℕ). settled m (SharePage t.l t.r t.p) (number_of _ _ _ e) (with_pairs m) _ refl refl
-    (rw (joined _ _ _) at (stored_there _ _ _ e m.pairs c.store_pair.ensures)) ws refl refl c.wordless.ensures
+pub returns-in-Err : goal.returns-in-Err
+returns-in-Err c = refused_out _ _ _ c.refused.ensures c.lend.ensures c.in-Err.ensures.number
+
+pub returns-in-Ok-None : goal.returns-in-Ok-None
+returns-in-Ok-None c =
+    let m = c.args.self.tables in
+    let pairs = ap (λ (t : Tables). t.pairs) c.lend.ensures in
+    let stands = rw pairs at (nowhere _ _ (sym c.in-Ok-None.field-0-is ∙ c.in-Ok-None.ensures.at)) in
+    λ (ws : List ℕ). accepted_out _ _ c.accepted.ensures c.lend.ensures c.in-Ok-None.ensures.number (ap (with_pairs m) (sym (cond-true stands _ _))) ws refl refl
+
+pub returns-in-Ok-Some : goal.returns-in-Ok-Some
+unfolding place
+returns-in-Ok-Some c =
+    let m = c.args.self.tables in
+    let pairs = ap (λ (t : Tables). t.pairs) c.lend.ensures in
+    let free = rw pairs at (somewhere _ _ (sym c.in-Ok-Some.field-0-is ∙ c.in-Ok-Some.ensures.at)) in
+    λ (ws : List ℕ). accepted_out _ _ c.accepted-in-Ok-Some.ensures c.lend.ensures c.in-Ok-Some.ensures.number
+    (ap (with_pairs m) (c.set.ensures ∙ rw (c.pair.ensures, free.1, cond-false free.0))) ws refl refl

@@ -1,19 +1,19 @@
 -- `holdings::Holdings::unshare_page` meets its contract.
-use Prim.Native.Nat.{ℕ}
 use mathlib.Core.List.{List}
-use mathlib.Core.Path.{refl}
-use Rattle.tables.specs.declared.search.Want.TheVariants.{Pair}
+use mathlib.Core.Path.{refl, ap, ◌∙◌}
+use Prim.Native.Nat.{ℕ}
 use Rattle.rules.specs.Parts.{with_pairs}
-use Rattle.rules.specs.Actions.{leans}
-use Rattle.rules.specs.Actions.Op.{UnsharePage}
-use Rattle.access.specs.Lent.{number}
-use Rattle.edits.proofs.Settled.{settled, number_of, freed-there}
+use Rattle.tables.specs.declared.state.Tables.{Tables}
+use Rattle.tables.proofs.TableLaws.{wipe_from-first}
+use Rattle.edits.proofs.Answered.{refused_out, accepted_out}
 use Rattle.holdings.proofs.Holdings.unshare_page.Goals as goal
 
-pub returns : goal.returns
-unfolding number leans
-returns c = let t = c.args in
-    let m = t.self.tables in
-    let e = c.unshare_page-v.ensures in
-    λ (ws : List ℕ). settled m (UnsharePage t.l t.r t.p) (number_of _ _ _ e) (with_pairs m) _ refl refl
-    (freed-there _ (Pair t.l t.r t.p) m.pairs e c.free_pair.ensures) ws refl refl c.wordless.ensures
+pub returns-in-Err : goal.returns-in-Err
+returns-in-Err c = refused_out _ _ _ c.refused.ensures c.lend.ensures c.in-Err.ensures.number
+
+pub returns-in-Ok : goal.returns-in-Ok
+returns-in-Ok c =
+    let m = c.args.self.tables in
+    let pairs = ap (λ (t : Tables). t.pairs) c.lend.ensures in
+    λ (ws : List ℕ). accepted_out _ _ c.accepted.ensures c.lend.ensures c.in-Ok.ensures.number
+    (ap (with_pairs m) (c.wipe_from.ensures ∙ rw (c.in-Ok.ensures.at, pairs, wipe_from-first))) ws refl refl

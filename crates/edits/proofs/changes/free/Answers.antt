@@ -1,9 +1,0 @@
--- `edits::changes::free` meets its contract.
-use borrow.Author.Tests.{eq-eqb, ne_eqb}
-use Rattle.edits.proofs.changes.free.Goals as goal
-
-pub returns-then-v-eq0 : goal.returns-then-v-eq0
-returns-then-v-eq0 c = rw (eq-eqb _ 0 c.if-v-eq0.true) c.wipe_from.ensures
-
-pub returns-else-v-eq0 : goal.returns-else-v-eq0
-returns-else-v-eq0 c = rw (ne_eqb _ 0 c.if-v-eq0.false)

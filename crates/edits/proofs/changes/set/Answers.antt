@@ -1,9 +1,0 @@
--- `edits::changes::set` meets its contract.
-use borrow.Author.Tests.{eq-eqb, ne_eqb}
-use Rattle.edits.proofs.changes.set.Goals as goal
-
-pub returns-then-number-eq0 : goal.returns-then-number-eq0
-returns-then-number-eq0 c = rw (eq-eqb _ 0 c.if-number-eq0.true) c.set_byte.ensures
-
-pub returns-else-number-eq0 : goal.returns-else-number-eq0
-returns-else-number-eq0 c = rw (ne_eqb _ 0 c.if-number-eq0.false)
