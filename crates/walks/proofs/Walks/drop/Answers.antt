@@ -1,20 +1,25 @@
 -- `walks::Walks::drop` meets its contract.
-use Prim.Native.Nat.{ℕ}
 use mathlib.Core.List.{List}
-use mathlib.Core.Path.{refl}
-use Rattle.tables.specs.declared.state.Side.TheVariants.{Cpu}
-use Rattle.numbers.specs.Entries.{key_of}
-use Rattle.tables.specs.declared.search.Want.TheVariants.{Key}
-use Rattle.rules.specs.Parts.{with_walk}
-use Rattle.rules.specs.Actions.Op.{Drop}
-use Rattle.access.specs.Lent.{number}
-use Rattle.edits.proofs.Settled.{settled, number_of, freed-there}
+use mathlib.Core.Path.{◌≡◌, refl, sym, ap, ◌∙◌}
+use Prim.Native.Nat.{ℕ}
+use Rattle.numbers.specs.Entries.{key_of, at_unit}
+use Rattle.numbers.specs.Search.{first}
+use Rattle.tables.specs.State.{map_of, tlb_of}
+use Rattle.tables.specs.Table.{hit, find, seat, put}
+use Rattle.tables.specs.Wants.{W, has_key, everywhere}
+use Rattle.tables.specs.declared.state.Tables.{Tables}
+use Rattle.tables.proofs.TableLaws.{wipe_from-first}
+use Rattle.edits.proofs.MapAndTlb.{and_then_tlb}
+use Rattle.edits.proofs.Answered.{refused_out, accepted_out}
 use Rattle.walks.proofs.Walks.drop.Goals as goal
 
-pub returns : goal.returns
-unfolding number
-returns c = let t = c.args in
-    let m = t.self.tables in
-    let e = c.drop-verdict.ensures in
-    λ (ws : List ℕ). settled m (Drop Cpu t.g t.u t.v) (number_of _ _ _ e) (with_walk Cpu m m.map) _ refl refl
-    (freed-there _ (Key (key_of t.u t.g t.v)) m.tlb e (rw c.key_of.ensures at c.free_tlb.ensures)) ws refl refl c.wordless.ensures
+pub returns-in-Err : goal.returns-in-Err
+returns-in-Err c = refused_out _ _ _ c.refused.ensures c.lend.ensures c.in-Err.ensures.number
+
+pub returns-in-Ok : goal.returns-in-Ok
+returns-in-Ok c =
+    let side = c.args.side in
+    let key = key_of c.args.u c.args.g c.args.v in
+    let at = c.in-Ok.ensures.at ∙ ap (λ (t : Tables). first (hit W (has_key key)) (tlb_of side t)) c.lend.ensures in
+    let changed = c.wipe_tlb.ensures ∙ rw (c.key_of.ensures, at, wipe_from-first) in
+    λ (ws : List ℕ). accepted_out _ _ c.accepted.ensures c.lend.ensures c.in-Ok.ensures.number changed ws refl refl

@@ -1,18 +1,27 @@
 -- `walks::Walks::map` meets its contract.
-use Prim.Native.Nat.{ℕ}
 use mathlib.Core.List.{List}
-use mathlib.Core.Path.{refl}
-use Rattle.tables.specs.declared.state.Side.TheVariants.{Cpu}
-use Rattle.tables.specs.Table.{put}
-use Rattle.rules.specs.Actions.Op.{Map}
-use Rattle.access.specs.Lent.{number}
-use Rattle.edits.proofs.Settled.{settled-walk, number_of, stored_there}
+use mathlib.Core.Path.{◌≡◌, refl, sym, ap, ◌∙◌}
+use Prim.Native.Nat.{ℕ}
+use Rattle.numbers.specs.Entries.{key_of, at_unit}
+use Rattle.numbers.specs.Search.{first}
+use Rattle.tables.specs.State.{map_of, tlb_of}
+use Rattle.tables.specs.Table.{hit, find, seat, put}
+use Rattle.tables.specs.Wants.{W, has_key, everywhere}
+use Rattle.tables.specs.declared.state.Tables.{Tables}
+use Rattle.tables.proofs.TableLaws.{wipe_from-first}
+use Rattle.edits.proofs.MapAndTlb.{and_then_tlb}
+use Rattle.edits.proofs.Answered.{refused_out, accepted_out}
 use Rattle.walks.proofs.Walks.map.Goals as goal
 
-pub returns : goal.returns
-unfolding number put
-returns c = let t = c.args in
-    let m = t.self.tables in
-    let e = c.map-verdict.ensures in
-    λ (ws : List ℕ). settled-walk m (Map Cpu t.g t.v t.p t.x) (number_of _ _ _ e) Cpu _ _ refl refl
-    (stored_there _ _ _ e m.map c.store_map.ensures) c.invalidate.ensures ws refl refl c.wordless.ensures
+pub returns-in-Err : goal.returns-in-Err
+returns-in-Err c = refused_out _ _ _ c.refused.ensures c.lend.ensures c.in-Err.ensures.number
+
+pub returns-in-Ok : goal.returns-in-Ok
+unfolding put
+returns-in-Ok c =
+    let side = c.args.side in
+    let key = key_of 0 c.args.g c.args.v in
+    let at = c.in-Ok.ensures.at ∙ ap (λ (t : Tables). seat W (has_key key) (map_of side t)) c.lend.ensures in
+    let map = c.set_map_row.ensures ∙ rw (c.entry-word.ensures, at) in
+    let changed = c.wipe_tlb.ensures ∙ and_then_tlb side c.args.self.tables (everywhere c.args.g c.args.v) _ _ map in
+    λ (ws : List ℕ). accepted_out _ _ c.accepted.ensures c.lend.ensures c.in-Ok.ensures.number changed ws refl refl

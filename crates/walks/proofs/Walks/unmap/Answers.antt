@@ -1,19 +1,26 @@
 -- `walks::Walks::unmap` meets its contract.
-use Prim.Native.Nat.{ℕ}
 use mathlib.Core.List.{List}
-use mathlib.Core.Path.{refl}
-use Rattle.tables.specs.declared.state.Side.TheVariants.{Cpu}
-use Rattle.numbers.specs.Entries.{key_of}
-use Rattle.tables.specs.declared.search.Want.TheVariants.{Key}
-use Rattle.rules.specs.Actions.Op.{Unmap}
-use Rattle.access.specs.Lent.{number}
-use Rattle.edits.proofs.Settled.{settled-walk, number_of, freed-there}
+use mathlib.Core.Path.{◌≡◌, refl, sym, ap, ◌∙◌}
+use Prim.Native.Nat.{ℕ}
+use Rattle.numbers.specs.Entries.{key_of, at_unit}
+use Rattle.numbers.specs.Search.{first}
+use Rattle.tables.specs.State.{map_of, tlb_of}
+use Rattle.tables.specs.Table.{hit, find, seat, put}
+use Rattle.tables.specs.Wants.{W, has_key, everywhere}
+use Rattle.tables.specs.declared.state.Tables.{Tables}
+use Rattle.tables.proofs.TableLaws.{wipe_from-first}
+use Rattle.edits.proofs.MapAndTlb.{and_then_tlb}
+use Rattle.edits.proofs.Answered.{refused_out, accepted_out}
 use Rattle.walks.proofs.Walks.unmap.Goals as goal
 
-pub returns : goal.returns
-unfolding number
-returns c = let t = c.args in
-    let m = t.self.tables in
-    let e = c.unmap-verdict.ensures in
-    λ (ws : List ℕ). settled-walk m (Unmap Cpu t.g t.v) (number_of _ _ _ e) Cpu _ _ refl refl
-    (freed-there _ (Key (key_of 0 t.g t.v)) m.map e (rw c.key_of.ensures at c.free_map.ensures)) c.invalidate.ensures ws refl refl c.wordless.ensures
+pub returns-in-Err : goal.returns-in-Err
+returns-in-Err c = refused_out _ _ _ c.refused.ensures c.lend.ensures c.in-Err.ensures.number
+
+pub returns-in-Ok : goal.returns-in-Ok
+returns-in-Ok c =
+    let side = c.args.side in
+    let key = key_of 0 c.args.g c.args.v in
+    let at = c.in-Ok.ensures.at ∙ ap (λ (t : Tables). first (hit W (has_key key)) (map_of side t)) c.lend.ensures in
+    let map = c.wipe_map.ensures ∙ rw (c.key_of.ensures, at, wipe_from-first) in
+    let changed = c.wipe_tlb.ensures ∙ and_then_tlb side c.args.self.tables (everywhere c.args.g c.args.v) _ _ map in
+    λ (ws : List ℕ). accepted_out _ _ c.accepted.ensures c.lend.ensures c.in-Ok.ensures.number changed ws refl refl
