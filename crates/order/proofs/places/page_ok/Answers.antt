@@ -5,4 +5,4 @@ use Rattle.order.proofs.places.page_ok.Goals as goal
 
 pub returns : goal.returns
 unfolding page_ok ◌and◌ ◌or◌ isnt
-returns c = rw (c.vm_ok.ensures, c.vm_ok-lent.ensures)
+returns c = rw (c.vm_ok.ensures, c.vm_ok-lent.ensures, c.get_or-holder.ensures, c.get_or-dma.ensures, c.get_or-region.ensures)

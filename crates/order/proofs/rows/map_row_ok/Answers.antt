@@ -8,8 +8,8 @@ unfolding map_row_ok ◌and◌
 returns c = rw (
   c.entry_ok.ensures,
   c.unit_in.ensures,
-  c.flag-there.ensures,
-  c.reach-may.ensures,
+  c.get_or-there.ensures,
+  c.may_reach-may.ensures,
   c.guest_in-guest.ensures,
   c.page_in.ensures,
 )

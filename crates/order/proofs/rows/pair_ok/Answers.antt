@@ -8,8 +8,8 @@ pub returns : goal.returns
 unfolding pair_ok ◌and◌ isnt guests pages
 returns c = rw (
   c.pair_tag_in.ensures,
-  c.flag.ensures,
-  c.flag-2.ensures,
+  c.get_or.ensures,
+  c.get_or-2.ensures,
   c.left_in-left.ensures,
   c.right_in-right.ensures,
   c.page_in.ensures,
