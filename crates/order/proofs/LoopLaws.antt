@@ -1,6 +1,6 @@
 -- What the walks over rows know: the library's tests of each row and of each number below a bound, a row and the rows after it,
 -- the row of a TLB in its map.
-use mathlib.Core.Path.{◌≡◌, refl, ◌∙◌, ap}
+use mathlib.Core.Path.{◌≡◌, refl, sym, ◌∙◌, ap}
 use mathlib.Core.Bool.{Bool, true, false, ◌&&◌, ◌||◌}
 use mathlib.Core.List.{List, [], ◌∷◌}
 use Prim.Native.Nat.{ℕ, ◌≤◌, ◌<◌}
@@ -83,3 +83,12 @@ module _ (map : List ℕ) (y home key j : ℕ) (h : home ≡ at_unit 0 y) (k : k
       let z : get_or map j 0 ≡ 0 = get_or-eq_default map 0 p in
       let l : 0 < at_unit 0 y = at-unit-live 0 y in
       omega arith)
+
+-- ── one test, and if it passes another: r and s are what the calls gave ──
+pub and-then : (a b : Bool) {r s : Bool} → r ≡ a → r ≡ true → s ≡ b → s ≡ (a and b)
+unfolding ◌and◌
+and-then a b p t q = let f : a ≡ true = sym p ∙ t in q ∙ rw f
+
+pub and-else : (a b : Bool) {r : Bool} → r ≡ a → r ≡ false → r ≡ (a and b)
+unfolding ◌and◌
+and-else a b p t = let f : a ≡ false = sym p ∙ t in t ∙ rw f

@@ -15,13 +15,11 @@ mod walks;
 fn in_order(t: Lent) -> bool
     ensures { result ≡ in_order (tables_of t.entry) }
 {
-    let pages = places::pages_ok(t);
-    let cpus = places::cpus_ok(t);
-    let shares = walks::rows_ok(t.pairs, |row| rows::pair_ok(t.present, row));
-    let once = walks::unique(t.pairs, rows::same_pair);
-    let cpu = walks::walk_ok(t, Side::Cpu);
-    let iommu = walks::walk_ok(t, Side::Iommu);
-    pages & (cpus & (shares & (once & (cpu & iommu))))
+    places::pages_ok(t)
+        && places::cpus_ok(t)
+        && walks::pairs_ok(t)
+        && walks::walk_ok(t, Side::Cpu)
+        && walks::walk_ok(t, Side::Iommu)
 }
 
 pub fn wf(t: Tables) -> bool

@@ -10,8 +10,8 @@ use tables::state::{Lent, Tables};
 fn vm_ok(present: &[bool], who: u8) -> bool
     ensures { result ≡ vm_ok present.now who }
 {
-    (who == Tables::NOBODY)
-        | state::guest_of(who).is_some_and(|guest| cells::get_or(present, guest as usize, false))
+    who == Tables::NOBODY
+        || state::guest_of(who).is_some_and(|guest| cells::get_or(present, guest as usize, false))
 }
 
 fn page_ok(t: Lent, page: usize) -> bool
@@ -20,11 +20,12 @@ fn page_ok(t: Lent, page: usize) -> bool
     let holder = cells::get_or(t.holder, page, Tables::NOBODY);
     let dma = cells::get_or(t.dma, page, Tables::NOBODY);
     let region = cells::get_or(t.region, page, false);
-    let held = (holder == Tables::HYPERVISOR) | vm_ok(t.present, holder);
-    let lent = vm_ok(t.present, dma);
     let own = Tables::GUEST <= holder;
     let io = Tables::GUEST <= dma;
-    held & (lent & (!(region & (own | io)) & (!(own & io) | (holder == dma))))
+    (holder == Tables::HYPERVISOR || vm_ok(t.present, holder))
+        && vm_ok(t.present, dma)
+        && !(region & (own | io))
+        && (!(own & io) | (holder == dma))
 }
 
 fn cpu_ok(t: Lent, unit: usize) -> bool

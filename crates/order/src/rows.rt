@@ -15,12 +15,12 @@ use tables::state::{Lent, Side};
 pub fn entry_ok(word: u32) -> bool
     ensures { result ≡ entry_ok word }
 {
-    (entries::tag_in(word) == 1)
-        & ((entries::unit_in(word) < Action::UNITS)
-            & ((entries::guest_in(word) < Action::GUESTS)
-                & ((entries::gpage_in(word) < Action::GPAGES)
-                    & ((entries::page_in(word) < Action::PAGES)
-                        & (entries::access_in(word) < Action::ACCESSES)))))
+    entries::tag_in(word) == 1
+        && entries::unit_in(word) < Action::UNITS
+        && entries::guest_in(word) < Action::GUESTS
+        && entries::gpage_in(word) < Action::GPAGES
+        && entries::page_in(word) < Action::PAGES
+        && entries::access_in(word) < Action::ACCESSES
 }
 
 // An entry of a side's map: its guest is present and may reach its page.
@@ -28,9 +28,10 @@ pub fn map_row_ok(t: Lent, side: Side, word: u32) -> bool
     ensures { result ≡ map_row_ok side t.entry.present.now (held_on side (tables_of t.entry)) t.entry.pairs.now t.entry.region.now word }
 {
     let guest = entries::guest_in(word);
-    let there = cells::get_or(t.present, guest as usize, false);
-    let may = t.may_reach(side, guest, entries::page_in(word));
-    entry_ok(word) & ((entries::unit_in(word) == 0) & (there & may))
+    entry_ok(word)
+        && entries::unit_in(word) == 0
+        && cells::get_or(t.present, guest as usize, false)
+        && t.may_reach(side, guest, entries::page_in(word))
 }
 
 pub fn pair_ok(present: &[bool], word: u32) -> bool
@@ -38,14 +39,14 @@ pub fn pair_ok(present: &[bool], word: u32) -> bool
 {
     let left = entries::left_in(word);
     let right = entries::right_in(word);
-    (entries::pair_tag_in(word) == 1)
-        & ((left < Action::GUESTS)
-            & ((right < Action::GUESTS)
-                & ((entries::page_in(word) < Action::PAGES)
-                    & ((entries::access_in(word) == 0)
-                        & (!(left == right)
-                            & (cells::get_or(present, left as usize, false)
-                                & cells::get_or(present, right as usize, false)))))))
+    entries::pair_tag_in(word) == 1
+        && left < Action::GUESTS
+        && right < Action::GUESTS
+        && entries::page_in(word) < Action::PAGES
+        && entries::access_in(word) == 0
+        && left != right
+        && cells::get_or(present, left as usize, false)
+        && cells::get_or(present, right as usize, false)
 }
 
 // What stands under the same key as an entry.

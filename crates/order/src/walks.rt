@@ -1,10 +1,12 @@
 // Whole tables, and a map with its TLB: each loop is left at the first row that settles the answer.
-ghost use Rattle.std.specs.Prelude.{◌≡◌, ◌<◌, ◌^◌, ℕ, Bool};
+ghost use Rattle.std.specs.Prelude.{◌≡◌, ℕ, Bool};
+ghost use Rattle.numbers.specs.Tests.{◌and◌};
+ghost use Rattle.order.specs.Calls.{Gives};
 ghost use Rattle.tables.specs.Lent.{tables_of};
 ghost use Rattle.tables.specs.State.{map_of, tlb_of, held_on};
 ghost use Rattle.tables.specs.Table.{each, uniq};
-ghost use Rattle.tables.specs.Wants.{W, meets};
-ghost use Rattle.tables.specs.Wf.{cached, walk_ok};
+ghost use Rattle.tables.specs.Wants.{W, meets, same_entry, same_pair};
+ghost use Rattle.tables.specs.Wf.{cached, entry_ok, map_row_ok, pair_ok, walk_ok};
 ghost use Rattle.tables.specs.declared.search.Want.{Want};
 
 use crate::rows;
@@ -14,17 +16,17 @@ use tables::search::Want;
 use tables::state::{Lent, Side};
 
 // Each live row is one that its table may have, as `ok` says.
-pub fn rows_ok<F: Fn(u32) -> bool>(table: &[u32], ok: F) -> bool
+fn rows_ok<F: Fn(u32) -> bool>(table: &[u32], ok: F) -> bool
     requires { F.IsAlwaysCallable ok }
-    ensures { (test : ℕ → Bool) → ((x : ℕ) → (b : Bool) → F.post ok x b → b ≡ test x) → result ≡ each W test table.now }
+    ensures { (test : ℕ → Bool) → Gives (F.post ok) test → result ≡ each W test table.now }
 {
     table.iter().all(|row| (*row == 0) || ok(*row))
 }
 
 // No key, or no pair, stands twice: no row has its like further on. `same` says what stands under the key of a row.
-pub fn unique<F: Fn(u32) -> Want>(table: &[u32], same: F) -> bool
+fn unique<F: Fn(u32) -> Want>(table: &[u32], same: F) -> bool
     requires { F.IsAlwaysCallable same }
-    ensures { (want : ℕ → Want) → ((x : ℕ) → (w : Want) → F.post same x w → w ≡ want x) → result ≡ uniq W (λ x. meets (want x)) table.now }
+    ensures { (want : ℕ → Want) → Gives (F.post same) want → result ≡ uniq W (λ x. meets (want x)) table.now }
 {
     let mut once = true;
     let mut rest = table;
@@ -41,6 +43,26 @@ pub fn unique<F: Fn(u32) -> Want>(table: &[u32], same: F) -> bool
         rest = later;
     }
     once
+}
+
+pub fn pairs_ok(t: Lent) -> bool
+    ensures { result ≡ (each W (pair_ok t.entry.present.now) t.entry.pairs.now and uniq W same_pair t.entry.pairs.now) }
+{
+    rows_ok(t.pairs, |row| rows::pair_ok(t.present, row)) && unique(t.pairs, rows::same_pair)
+}
+
+fn map_ok(t: Lent, side: Side) -> bool
+    ensures { result ≡ (each W (map_row_ok side t.entry.present.now (held_on side (tables_of t.entry)) t.entry.pairs.now t.entry.region.now) (map_of side (tables_of t.entry))
+        and uniq W same_entry (map_of side (tables_of t.entry))) }
+{
+    let map = t.map_of(side);
+    rows_ok(map, |row| rows::map_row_ok(t, side, row)) && unique(map, rows::same_entry)
+}
+
+fn tlb_ok(tlb: &[u32]) -> bool
+    ensures { result ≡ (each W entry_ok tlb.now and uniq W same_entry tlb.now) }
+{
+    rows_ok(tlb, rows::entry_ok) && unique(tlb, rows::same_entry)
 }
 
 // Each entry of a TLB is its map's entry for that guest and guest page.
@@ -71,9 +93,6 @@ fn tlb_safe(map: &[u32], tlb: &[u32]) -> bool
 pub fn walk_ok(t: Lent, side: Side) -> bool
     ensures { result ≡ walk_ok side (map_of side (tables_of t.entry)) (tlb_of side (tables_of t.entry)) t.entry.present.now (held_on side (tables_of t.entry)) t.entry.pairs.now t.entry.region.now }
 {
-    let map = t.map_of(side);
     let tlb = t.tlb_of(side);
-    rows_ok(map, |row| rows::map_row_ok(t, side, row))
-        & (unique(map, rows::same_entry)
-            & (rows_ok(tlb, rows::entry_ok) & (unique(tlb, rows::same_entry) & tlb_safe(map, tlb))))
+    map_ok(t, side) && tlb_ok(tlb) && tlb_safe(t.map_of(side), tlb)
 }
