@@ -1,9 +1,9 @@
 // One row of a table: is it one that the table may have, and what stands under the same key.
 ghost use Rattle.std.specs.Prelude.{◌≡◌};
 ghost use Rattle.numbers.specs.Entries.{key_in, left_in, right_in, page_in};
+ghost use Rattle.order.specs.Sides.{side_row};
 ghost use Rattle.tables.specs.Lent.{tables_of};
-ghost use Rattle.tables.specs.State.{held_on};
-ghost use Rattle.tables.specs.Wf.{entry_ok, map_row_ok, pair_ok};
+ghost use Rattle.tables.specs.Wf.{entry_ok, pair_ok};
 ghost use Rattle.tables.specs.declared.search.Want.TheVariants.{Key, Pair};
 
 use numbers::frames::Action;
@@ -25,7 +25,7 @@ pub fn entry_ok(word: u32) -> bool
 
 // An entry of a side's map: its guest is present and may reach its page.
 pub fn map_row_ok(t: Lent, side: Side, word: u32) -> bool
-    ensures { result ≡ map_row_ok side t.entry.present.now (held_on side (tables_of t.entry)) t.entry.pairs.now t.entry.region.now word }
+    ensures { result ≡ side_row side (tables_of t.entry) word }
 {
     let guest = entries::guest_in(word);
     entry_ok(word)

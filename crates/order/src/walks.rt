@@ -2,11 +2,12 @@
 ghost use Rattle.std.specs.Prelude.{◌≡◌, ℕ, Bool};
 ghost use Rattle.numbers.specs.Tests.{◌and◌};
 ghost use Rattle.order.specs.Calls.{Gives};
+ghost use Rattle.order.specs.Sides.{side_row, side_ok};
 ghost use Rattle.tables.specs.Lent.{tables_of};
-ghost use Rattle.tables.specs.State.{map_of, tlb_of, held_on};
+ghost use Rattle.tables.specs.State.{map_of};
 ghost use Rattle.tables.specs.Table.{each, uniq};
 ghost use Rattle.tables.specs.Wants.{W, meets, same_entry, same_pair};
-ghost use Rattle.tables.specs.Wf.{cached, entry_ok, map_row_ok, pair_ok, walk_ok};
+ghost use Rattle.tables.specs.Wf.{cached, entry_ok, pair_ok};
 ghost use Rattle.tables.specs.declared.search.Want.{Want};
 
 use crate::rows;
@@ -20,7 +21,7 @@ fn rows_ok<F: Fn(u32) -> bool>(table: &[u32], ok: F) -> bool
     requires { F.IsAlwaysCallable ok }
     ensures { (test : ℕ → Bool) → Gives (F.post ok) test → result ≡ each W test table.now }
 {
-    table.iter().all(|row| (*row == 0) || ok(*row))
+    table.iter().all(|row| *row == 0 || ok(*row))
 }
 
 // No key, or no pair, stands twice: no row has its like further on. `same` says what stands under the key of a row.
@@ -52,7 +53,7 @@ pub fn pairs_ok(t: Lent) -> bool
 }
 
 fn map_ok(t: Lent, side: Side) -> bool
-    ensures { result ≡ (each W (map_row_ok side t.entry.present.now (held_on side (tables_of t.entry)) t.entry.pairs.now t.entry.region.now) (map_of side (tables_of t.entry))
+    ensures { result ≡ (each W (side_row side (tables_of t.entry)) (map_of side (tables_of t.entry))
         and uniq W same_entry (map_of side (tables_of t.entry))) }
 {
     let map = t.map_of(side);
@@ -91,7 +92,7 @@ fn tlb_safe(map: &[u32], tlb: &[u32]) -> bool
 
 // A side's map and its TLB.
 pub fn walk_ok(t: Lent, side: Side) -> bool
-    ensures { result ≡ walk_ok side (map_of side (tables_of t.entry)) (tlb_of side (tables_of t.entry)) t.entry.present.now (held_on side (tables_of t.entry)) t.entry.pairs.now t.entry.region.now }
+    ensures { result ≡ side_ok side (tables_of t.entry) }
 {
     let tlb = t.tlb_of(side);
     map_ok(t, side) && tlb_ok(tlb) && tlb_safe(t.map_of(side), tlb)
