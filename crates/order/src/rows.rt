@@ -56,12 +56,13 @@ pub fn same_entry(word: u32) -> Want
     Want::Key(entries::key_in(word))
 }
 
-// And as a pair.
+// What stands under the same key as a pair: its ends in either order, on its page.
 pub fn same_pair(word: u32) -> Want
     ensures { result ≡ Pair (left_in word) (right_in word) (page_in word) }
 {
-    let left = entries::left_in(word);
-    let right = entries::right_in(word);
-    let page = entries::page_in(word);
-    Want::Pair(left, right, page)
+    Want::Pair(
+        entries::left_in(word),
+        entries::right_in(word),
+        entries::page_in(word),
+    )
 }

@@ -46,12 +46,14 @@ fn unique<F: Fn(u32) -> Want>(table: &[u32], same: F) -> bool
     once
 }
 
+// Each pair is one that may stand, and none stands twice.
 pub fn pairs_ok(t: Lent) -> bool
     ensures { result ≡ (each W (pair_ok t.entry.present.now) t.entry.pairs.now and uniq W same_pair t.entry.pairs.now) }
 {
     rows_ok(t.pairs, |row| rows::pair_ok(t.present, row)) && unique(t.pairs, rows::same_pair)
 }
 
+// The same of a side's map.
 fn map_ok(t: Lent, side: Side) -> bool
     ensures { result ≡ (each W (side_row side (tables_of t.entry)) (map_of side (tables_of t.entry))
         and uniq W same_entry (map_of side (tables_of t.entry))) }
@@ -60,6 +62,7 @@ fn map_ok(t: Lent, side: Side) -> bool
     rows_ok(map, |row| rows::map_row_ok(t, side, row)) && unique(map, rows::same_entry)
 }
 
+// And of a TLB by itself.
 fn tlb_ok(tlb: &[u32]) -> bool
     ensures { result ≡ (each W entry_ok tlb.now and uniq W same_entry tlb.now) }
 {
