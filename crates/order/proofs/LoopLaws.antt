@@ -1,72 +1,75 @@
--- What the loops over rows know: a test of each row with the rows after it, no like of a row so far, the row of a TLB in its map.
-use mathlib.Core.Path.{◌≡◌, refl, ◌∙◌}
-use mathlib.Core.Bool.{Bool, true, false}
-use mathlib.Core.List.{List}
-use Prim.Native.Nat.{ℕ, suc, ◌+◌, ◌≤◌, ◌<◌}
-use native.Mathlib.Numerals.{add-one}
+-- What the walks over rows know: the library's tests of each row and of each number below a bound, a row and the rows after it,
+-- the row of a TLB in its map.
+use mathlib.Core.Path.{◌≡◌, refl, sym, ◌∙◌, ap}
+use mathlib.Core.Bool.{Bool, true, false, ◌&&◌, ◌||◌}
+use mathlib.Core.List.{List, [], ◌∷◌}
+use Prim.Native.Nat.{ℕ, ◌≤◌, ◌<◌}
+use native.Mathlib.Nat.{zero-add}
 use native.Mathlib.Omega.{arith}
 use lib.Dec.{eqb}
-use borrow.Author.Tests.{ne_eqb}
-use lib.ListN.{length, get_or, drop, get_or-eq_default, drop_of_length-le}
-use lib.Seq.{drop-cons}
-use Rattle.numbers.specs.Tests.{◌and◌}
-use Rattle.numbers.specs.Search.{first}
+use borrow.Author.Tests.{ne_eqb, lt-ltb, le-ltb}
+use lib.ListN.{length, get_or, get_or-eq_default}
+use Rattle.std.specs.List.{list_all, range_with_len}
+use Rattle.std.proofs.lemmas.List.Sums.{AllPass-from_list_all, list_all-from_AllPass}
+use Rattle.std.proofs.lemmas.List.FromFn.{length-range_with_len, get_or-range_with_len}
+use Rattle.numbers.specs.Tests.{◌and◌, ◌or◌, isnt}
+use Rattle.numbers.specs.Search.{first, upto}
 use Rattle.numbers.specs.Entries.{key_in, at_unit}
-use Rattle.numbers.proofs.Bools.{and-no-l}
+use Rattle.numbers.proofs.Bools.{split, bool-ext}
+use Rattle.numbers.proofs.SearchLaws.{Passed, passed-hit, passed-end, upto-at, upto-i}
 use Rattle.numbers.proofs.EntryLaws.{key-at-unit, at-unit-live}
-use Rattle.tables.specs.Table.{Shape, all, hit, has}
+use Rattle.tables.specs.Table.{Shape, all, live, hit, has, each, uniq}
 use Rattle.tables.specs.Wants.{W, meets}
 use Rattle.tables.specs.Wf.{cached}
 use Rattle.tables.specs.declared.search.Want.TheVariants.{Key}
-use Rattle.tables.proofs.TableLaws.{has-nil, has-hit, has-skip, find_at}
+use Rattle.tables.proofs.TableLaws.{find_at}
 
-module _ {A : Type 0} where
-  -- ── the rows from i on decide ──
-  unfoldable pub Left : (A → List A → Bool) → List A → ℕ → Type 0
-  Left ok xs i = all ok xs ≡ all ok (drop i xs)
+-- ── each number below a bound ──
+pub list_all-upto : (f : ℕ → Bool) (n : ℕ) → list_all f (range_with_len 0 n) ≡ upto n f
+list_all-upto f n = bool-ext _ _
+    (λ e. upto-i n f (λ k h.
+    let l : k < length (range_with_len 0 n) = rw length-range_with_len h in
+    rw (get_or-range_with_len 0 n k 0 h, zero-add k) at (AllPass-from_list_all f _ e k 0 l)))
+    (λ e. list_all-from_AllPass f _ (λ k d l.
+    let h : k < n = rw length-range_with_len at l in
+    rw (get_or-range_with_len 0 n k d h, zero-add k) (upto-at n f e k h)))
 
-  pub left-none : (ok : A → List A → Bool) (xs : List A) → Left ok xs 0
-  unfolding Left
-  left-none ok xs = refl
-
-  module _ (ok : A → List A → Bool) (xs : List A) (i : ℕ) (d : A) (h : i < length xs) (q : Left ok xs i) where
-    step : all ok (drop i xs) ≡ (ok (get_or xs i d) (drop (i + 1) xs) and all ok (drop (i + 1) xs))
-    unfolding all
-    step = rw (add-one, drop-cons xs i d h)
-
-    pub left-more : ok (get_or xs i d) (drop (i + 1) xs) ≡ true → Left ok xs (i + 1)
-    unfolding Left ◌and◌
-    left-more e = q ∙ step ∙ rw e
-
-    pub left-no : ok (get_or xs i d) (drop (i + 1) xs) ≡ false → all ok xs ≡ false
-    unfolding Left
-    left-no e = q ∙ step ∙ and-no-l _ e
-
-  pub left_end : (ok : A → List A → Bool) (xs : List A) (i : ℕ) → length xs ≤ i → Left ok xs i → all ok xs ≡ true
-  unfolding Left all
-  left_end ok xs i h q = q ∙ rw (drop_of_length-le xs h)
-
--- ── from place a on, no row before place j is a hit ──
 module _ {A : Type 0} (K : Shape A) where
-  unfoldable pub Beyond : (A → Bool) → List A → ℕ → ℕ → Type 0
-  Beyond k xs a j = has K k (drop a xs) ≡ has K k (drop j xs)
+  -- ── each row ──
+  pub list_all-each : (ok : A → Bool) (t : List A) → list_all (λ x. K.free x || ok x) t ≡ each K ok t
+  unfolding each all isnt ◌and◌ ◌or◌
+  list_all-each ok [] = refl
+  list_all-each ok (x ∷ t) = split (K.free x)
+      (λ e. rw e (list_all-each ok t))
+      (λ e. rw e (ap (λ (b : Bool). ok x && b) (list_all-each ok t)))
 
-  pub beyond-none : (k : A → Bool) (xs : List A) (a : ℕ) → Beyond k xs a a
-  unfolding Beyond
-  beyond-none k xs a = refl
+  -- ── where a search has passed the first i rows ──
+  module _ (k : A → Bool) (t : List A) (i : ℕ) (q : Passed (hit K k) t i) where
+    pub has-here : (d : A) → i < length t → hit K k (get_or t i d) ≡ true → has K k t ≡ true
+    unfolding has
+    has-here d l e = lt-ltb _ _ (rw (passed-hit (hit K k) t i d l q e) l)
 
-  module _ (k : A → Bool) (xs : List A) (a j : ℕ) (d : A) (h : j < length xs) (q : Beyond k xs a j) where
-    pub beyond-more : hit K k (get_or xs j d) ≡ false → Beyond k xs a (j + 1)
-    unfolding Beyond
-    beyond-more e = q ∙ rw (add-one, drop-cons xs j d h) (has-skip K k (get_or xs j d) (drop (suc j) xs) e)
+    pub has-none : length t ≤ i → i ≤ length t → has K k t ≡ false
+    unfolding has
+    has-none l m = let e : first (hit K k) t ≡ length t = passed-end (hit K k) t i l m q in le-ltb _ _ (omega arith)
 
-    pub beyond-hit : hit K k (get_or xs j d) ≡ true → has K k (drop a xs) ≡ true
-    unfolding Beyond
-    beyond-hit e = q ∙ rw (drop-cons xs j d h) (has-hit K k (get_or xs j d) (drop (suc j) xs) e)
+  -- ── a row and the rows after it ──
+  module _ (same : A → A → Bool) where
+    pub uniq-nil : uniq K same [] ≡ true
+    unfolding uniq all
+    uniq-nil = refl
 
-  pub beyond-end : (k : A → Bool) (xs : List A) (a j : ℕ) → length xs ≤ j → Beyond k xs a j → has K k (drop a xs) ≡ false
-  unfolding Beyond
-  beyond-end k xs a j h q = q ∙ rw (drop_of_length-le xs h) (has-nil K k)
+    pub uniq-free : (x : A) (t : List A) → live K x ≡ false → uniq K same (x ∷ t) ≡ uniq K same t
+    unfolding uniq all isnt ◌and◌ ◌or◌
+    uniq-free x t e = rw e
+
+    pub uniq-once : (x : A) (t : List A) → has K (same x) t ≡ false → uniq K same (x ∷ t) ≡ uniq K same t
+    unfolding uniq all isnt ◌and◌ ◌or◌
+    uniq-once x t e = split (K.free x) (λ f. rw f) (λ f. rw (f, e))
+
+    pub uniq-twice : (x : A) (t : List A) → live K x ≡ true → has K (same x) t ≡ true → uniq K same (x ∷ t) ≡ false
+    unfolding uniq all isnt ◌and◌ ◌or◌
+    uniq-twice x t l e = rw (l, e)
 
 -- ── a TLB entry against the row that a search for its key ends at ──
 module _ (map : List ℕ) (y home key j : ℕ) (h : home ≡ at_unit 0 y) (k : key ≡ key_in home) (f : first (hit W (meets (Key key))) map ≡ j) where
@@ -80,3 +83,12 @@ module _ (map : List ℕ) (y home key j : ℕ) (h : home ≡ at_unit 0 y) (k : k
       let z : get_or map j 0 ≡ 0 = get_or-eq_default map 0 p in
       let l : 0 < at_unit 0 y = at-unit-live 0 y in
       omega arith)
+
+-- ── one test, and if it passes another: r and s are what the calls gave ──
+pub and-then : (a b : Bool) {r s : Bool} → r ≡ a → r ≡ true → s ≡ b → s ≡ (a and b)
+unfolding ◌and◌
+and-then a b p t q = let f : a ≡ true = sym p ∙ t in q ∙ rw f
+
+pub and-else : (a b : Bool) {r : Bool} → r ≡ a → r ≡ false → r ≡ (a and b)
+unfolding ◌and◌
+and-else a b p t = let f : a ≡ false = sym p ∙ t in t ∙ rw f

@@ -1,76 +1,47 @@
 // Pages and CPUs: who holds or runs is nobody or a guest that is present, and no page has two guests.
 ghost use Rattle.std.specs.Prelude.{◌≡◌};
-ghost use Rattle.numbers.specs.Search.{upto};
-ghost use Rattle.order.specs.Places.{place_ok};
-ghost use Rattle.tables.specs.Wf.{vm_ok, page_ok};
+ghost use Rattle.tables.specs.Wf.{vm_ok, page_at, cpu_at, pages_ok, cpus_ok};
 
+use numbers::cells;
 use tables::state;
-use tables::state::Tables;
-
-// Which places are meant: pages, or CPUs, of which only who runs counts.
-#[derive(Clone, Copy)]
-pub enum Places {
-    Pages,
-    Cpus,
-}
+use tables::state::{Lent, Tables};
 
 // Nobody, or a guest that is present.
 fn vm_ok(present: &[bool], who: u8) -> bool
     ensures { result ≡ vm_ok present.now who }
 {
-    (who == Tables::NOBODY) | ((Tables::GUEST <= who) & state::flag(present, state::guest_of(who)))
+    who == Tables::NOBODY
+        || state::guest_of(who).is_some_and(|guest| cells::get_or(present, guest as usize, false))
 }
 
-fn page_ok(present: &[bool], holder: u8, dma: u8, region: bool) -> bool
-    ensures { result ≡ page_ok present.now holder dma region }
+fn page_ok(t: Lent, page: usize) -> bool
+    ensures { result ≡ page_at t.entry.present.now t.entry.holder.now t.entry.dma.now t.entry.region.now page }
 {
-    let held = (holder == Tables::HYPERVISOR) | vm_ok(present, holder);
-    let lent = vm_ok(present, dma);
+    let holder = cells::get_or(t.holder, page, Tables::NOBODY);
+    let dma = cells::get_or(t.dma, page, Tables::NOBODY);
+    let region = cells::get_or(t.region, page, false);
     let own = Tables::GUEST <= holder;
     let io = Tables::GUEST <= dma;
-    held & (lent & (!(region & (own | io)) & (!(own & io) | (holder == dma))))
+    (holder == Tables::HYPERVISOR || vm_ok(t.present, holder))
+        && vm_ok(t.present, dma)
+        && !(region & (own | io))
+        && (!(own & io) | (holder == dma))
 }
 
-fn place_ok<'a>(
-    what: Places,
-    present: &'a [bool],
-    who: &'a [u8],
-    dma: &'a [u8],
-    region: &'a [bool],
-    i: usize,
-) -> bool
-    ensures { result ≡ place_ok what present.now who.now dma.now region.now i }
+fn cpu_ok(t: Lent, unit: usize) -> bool
+    ensures { result ≡ cpu_at t.entry.present.now t.entry.running.now unit }
 {
-    match what {
-        Places::Pages => page_ok(
-            present,
-            state::who(who, i),
-            state::who(dma, i),
-            state::flag(region, i),
-        ),
-        Places::Cpus => vm_ok(present, state::who(who, i)),
-    }
+    vm_ok(t.present, cells::get_or(t.running, unit, Tables::NOBODY))
 }
 
-// Each of the first `count` places is in order: left at the first that is not. `who` is who holds each page or runs on each CPU.
-pub fn each_place<'a>(
-    what: Places,
-    count: usize,
-    present: &'a [bool],
-    who: &'a [u8],
-    dma: &'a [u8],
-    region: &'a [bool],
-) -> bool
-    ensures { result ≡ upto count (place_ok what present.now who.now dma.now region.now) }
+pub fn pages_ok(t: Lent) -> bool
+    ensures { result ≡ pages_ok t.entry.present.now t.entry.holder.now t.entry.dma.now t.entry.region.now }
 {
-    let mut i: usize = 0;
-    loop {
-        if count <= i {
-            break true;
-        }
-        if !place_ok(what, present, who, dma, region, i) {
-            break false;
-        }
-        i += 1;
-    }
+    (0..Tables::PAGES).all(|page| page_ok(t, page))
+}
+
+pub fn cpus_ok(t: Lent) -> bool
+    ensures { result ≡ cpus_ok t.entry.present.now t.entry.running.now }
+{
+    (0..Tables::UNITS).all(|unit| cpu_ok(t, unit))
 }

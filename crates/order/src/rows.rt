@@ -1,95 +1,68 @@
 // One row of a table: is it one that the table may have, and what stands under the same key.
 ghost use Rattle.std.specs.Prelude.{◌≡◌};
-ghost use Rattle.order.specs.Rows.{row_ok, same_as};
-ghost use Rattle.tables.specs.Wf.{entry_ok, map_row_ok, pair_ok};
+ghost use Rattle.numbers.specs.Entries.{key_in, left_in, right_in, page_in};
+ghost use Rattle.order.specs.Sides.{side_row};
+ghost use Rattle.tables.specs.Lent.{tables_of};
+ghost use Rattle.tables.specs.Wf.{entry_ok, pair_ok};
+ghost use Rattle.tables.specs.declared.search.Want.TheVariants.{Key, Pair};
 
-use numbers::entries;
 use numbers::frames::Action;
+use numbers::{cells, entries};
 use tables::search::Want;
-use tables::state;
-use tables::state::Side;
-
-// What the rows of a table are.
-#[derive(Clone, Copy)]
-pub enum Rows {
-    Map(Side),
-    Tlb,
-    Pairs,
-}
+use tables::state::{Lent, Side};
 
 // An entry whose numbers are in range.
-fn entry_ok(word: u32) -> bool
+pub fn entry_ok(word: u32) -> bool
     ensures { result ≡ entry_ok word }
 {
-    (entries::tag_in(word) == 1)
-        & ((entries::unit_in(word) < Action::UNITS)
-            & ((entries::guest_in(word) < Action::GUESTS)
-                & ((entries::gpage_in(word) < Action::GPAGES)
-                    & ((entries::page_in(word) < Action::PAGES)
-                        & (entries::access_in(word) < Action::ACCESSES)))))
+    entries::tag_in(word) == 1
+        && entries::unit_in(word) < Action::UNITS
+        && entries::guest_in(word) < Action::GUESTS
+        && entries::gpage_in(word) < Action::GPAGES
+        && entries::page_in(word) < Action::PAGES
+        && entries::access_in(word) < Action::ACCESSES
 }
 
-// An entry of a map: its guest is present and may reach its page.
-fn map_row_ok<'a>(
-    word: u32,
-    side: Side,
-    present: &'a [bool],
-    held: &'a [u8],
-    pairs: &'a [u32],
-    region: &'a [bool],
-) -> bool
-    ensures { result ≡ map_row_ok side present.now held.now pairs.now region.now word }
+// An entry of a side's map: its guest is present and may reach its page.
+pub fn map_row_ok(t: Lent, side: Side, word: u32) -> bool
+    ensures { result ≡ side_row side (tables_of t.entry) word }
 {
     let guest = entries::guest_in(word);
-    let there = state::flag(present, guest as usize);
-    let may = state::reach(side, held, pairs, region, guest, entries::page_in(word));
-    entry_ok(word) & ((entries::unit_in(word) == 0) & (there & may))
+    entry_ok(word)
+        && entries::unit_in(word) == 0
+        && cells::get_or(t.present, guest as usize, false)
+        && t.may_reach(side, guest, entries::page_in(word))
 }
 
-fn pair_ok(present: &[bool], word: u32) -> bool
+pub fn pair_ok(present: &[bool], word: u32) -> bool
     ensures { result ≡ pair_ok present.now word }
 {
     let left = entries::left_in(word);
     let right = entries::right_in(word);
-    (entries::pair_tag_in(word) == 1)
-        & ((left < Action::GUESTS)
-            & ((right < Action::GUESTS)
-                & ((entries::page_in(word) < Action::PAGES)
-                    & ((entries::access_in(word) == 0)
-                        & (!(left == right)
-                            & (state::flag(present, left as usize)
-                                & state::flag(present, right as usize)))))))
+    entries::pair_tag_in(word) == 1
+        && left < Action::GUESTS
+        && right < Action::GUESTS
+        && entries::page_in(word) < Action::PAGES
+        && entries::access_in(word) == 0
+        && left != right
+        && cells::get_or(present, left as usize, false)
+        && cells::get_or(present, right as usize, false)
 }
 
-pub fn row_ok<'a>(
-    rows: Rows,
-    present: &'a [bool],
-    held: &'a [u8],
-    pairs: &'a [u32],
-    region: &'a [bool],
-    word: u32,
-) -> bool
-    ensures { result ≡ row_ok rows present.now held.now pairs.now region.now word }
+// What stands under the same key as an entry.
+pub fn same_entry(word: u32) -> Want
+    ensures { result ≡ Key (key_in word) }
 {
-    match rows {
-        Rows::Map(side) => map_row_ok(word, side, present, held, pairs, region),
-        Rows::Tlb => entry_ok(word),
-        Rows::Pairs => pair_ok(present, word),
-    }
+    Want::Key(entries::key_in(word))
 }
 
-// What stands under the same key as a row.
-pub fn same_as(rows: Rows, word: u32) -> Want
-    ensures { result ≡ same_as rows word }
+// What stands under the same key as a pair: its ends in either order, on its page.
+pub fn same_pair(word: u32) -> Want
+    ensures { result ≡ Pair (left_in word) (right_in word) (page_in word) }
 {
-    match rows {
-        Rows::Map(_) => Want::Key(entries::key_in(word)),
-        Rows::Tlb => Want::Key(entries::key_in(word)),
-        Rows::Pairs => {
-            let left = entries::left_in(word);
-            let right = entries::right_in(word);
-            let page = entries::page_in(word);
-            Want::Pair(left, right, page)
-        }
-    }
+    Want::Pair(
+        entries::left_in(word),
+        entries::right_in(word),
+        entries::page_in(word),
+    )
 }

@@ -1,15 +1,13 @@
 -- `order::rows::map_row_ok` meets its contract.
+use borrow.Author.Rules.{rules}
 use Rattle.numbers.specs.Tests.{◌and◌}
 use Rattle.tables.specs.Wf.{map_row_ok}
 use Rattle.order.proofs.rows.map_row_ok.Goals as goal
 
-pub returns : goal.returns
+pub returns-then-get_or : goal.returns-then-get_or
 unfolding map_row_ok ◌and◌
-returns c = rw (
-  c.entry_ok.ensures,
-  c.unit_in.ensures,
-  c.flag-there.ensures,
-  c.reach-may.ensures,
-  c.guest_in-guest.ensures,
-  c.page_in.ensures,
-)
+returns-then-get_or c = search rules
+
+pub returns-else-get_or : goal.returns-else-get_or
+unfolding map_row_ok ◌and◌
+returns-else-get_or c = search rules

@@ -1,57 +1,60 @@
 -- `order::walks::tlb_safe` meets its contract.
-use mathlib.Core.Path.{sym, ◌∙◌}
+use mathlib.Core.Path.{◌≡◌, sym, ◌∙◌}
+use mathlib.Core.Bool.{true, false, ◌||◌}
+use mathlib.Core.List.{List}
+use Prim.Native.Nat.{ℕ, ◌+◌, ◌<◌}
 use native.Mathlib.Omega.{arith}
-use borrow.Author.Rules.{rules}
+use lib.Dec.{eqb}
+use lib.ListN.{length, get_or, take}
+use lib.Seq.{take_all}
 use borrow.Author.Tests.{eq-eqb, ne_eqb}
-use Rattle.numbers.proofs.Bools.{or-il, or-ir, or_no, isnt-i, isnt-no}
+use Rattle.std.specs.List.{list_all}
+use Rattle.std.proofs.lemmas.List.Folds.{list_all_more, list_all_at}
 use Rattle.numbers.proofs.SearchLaws.{passed_none, passed-more, passed-hit, passed-end}
 use Rattle.tables.specs.Table.{each}
-use Rattle.order.proofs.LoopLaws.{left-none, left-more, left-no, left_end, cached-at, cached-past}
+use Rattle.tables.specs.Wants.{W}
+use Rattle.tables.specs.Wf.{cached}
+use Rattle.order.proofs.LoopLaws.{list_all-each, cached-at, cached-past}
 use Rattle.order.proofs.walks.tlb_safe.Goals as goal
-use Rattle.order.proofs.walks.tlb_safe.Goals.{then-word-ne0+else-map-j+then-hits+else-map-j-2, else-word-ne0}
 
-pub rows-init : goal.rows-init
-rows-init c = (search rules, left-none _ _)
+-- row i passes, or settles the answer
+module _ (map tlb : List ℕ) (i : ℕ) (h : i < length tlb) where
+  more : list_all (λ y. eqb y 0 || cached map y) (take i tlb) ≡ true → (eqb (get_or tlb i 0) 0 || cached map (get_or tlb i 0)) ≡ true →
+      list_all (λ y. eqb y 0 || cached map y) (take (i + 1) tlb) ≡ true
+  more q e = list_all_more _ tlb i 0 h ∙ rw (q, e)
 
-pub loop-j-init : goal.loop-j-init
-loop-j-init c = (search rules, passed_none _ _)
+  no : (get_or tlb i 0 ≡ 0 → ⊥) → cached map (get_or tlb i 0) ≡ false → false ≡ each W (cached map) tlb
+  no n e = sym (list_all_at (λ y. eqb y 0 || cached map y) tlb i 0 h (rw (ne_eqb _ _ n) e)) ∙ list_all-each W (cached map) tlb
 
-pub loop-j-preserved : goal.loop-j-preserved
-loop-j-preserved c = (
-  search rules,
-  passed-more _ _ _ 0 c.if-map-j.false c.loop-j.invariant.1
-      (sym c.hits.ensures ∙ c.if-hits.false),
+pub loop-entry-init : goal.loop-entry-init
+loop-entry-init c = passed_none _ _
+
+pub loop-entry-preserved : goal.loop-entry-preserved
+loop-entry-preserved c = passed-more _ _ _ 0 c.loop-entry-test.true c.loop-entry.invariant (sym c.hits.ensures ∙ c.if-hits.false)
+
+pub rows-preserved-then-entry-home : goal.rows-preserved-then-entry-home
+rows-preserved-then-entry-home c = (
+  c.rows.invariant.0,
+  more _ _ _ c.rows-test.true c.rows.invariant.1 (rw (ne_eqb _ _ c.if-row-ne0.true)
+      (cached-at _ _ _ _ _ c.at_unit-home.ensures c.key_in.ensures
+      (passed-hit _ _ _ 0 c.loop-entry-test.true c.loop-entry.invariant (sym c.hits.ensures ∙ c.if-hits.true))
+      ∙ eq-eqb _ _ c.if-entry-home.true)),
 )
 
 pub rows-preserved : goal.rows-preserved
-rows-preserved c = (
-  search rules,
-  left-more _ _ _ 0 c.if-tlb-i.false c.rows.invariant.1
-      (elim c.if-word-ne0.branch [
-        | then-word-ne0+else-map-j+then-hits+else-map-j-2 w ↦ or-ir _ (cached-at _ _ _ _ _ w.at_unit-home.ensures w.key_in.ensures
-            (passed-hit _ _ _ 0 w.if-map-j.false w.loop-j.invariant.1 (sym w.hits.ensures ∙ w.if-hits.true))
-            ∙ eq-eqb _ _ w.if-map-j-2.false)
-        | else-word-ne0 w ↦ or-il _ (isnt-i (isnt-no (eq-eqb _ _ w.if-word-ne0.false)))
-      ]),
-)
+rows-preserved c = (c.rows.invariant.0, more _ _ _ c.rows-test.true c.rows.invariant.1 (rw (eq-eqb _ _ c.if-row-ne0.false)))
 
-pub returns-then-tlb-i : goal.returns-then-tlb-i
-unfolding each
-returns-then-tlb-i c = sym (left_end _ _ _ c.if-tlb-i.true c.rows.invariant.1)
-
-pub returns-then-map-j : goal.returns-then-map-j
-unfolding each
-returns-then-map-j c = sym (left-no _ _ _ 0 c.if-tlb-i.false c.rows.invariant.1
-    (or_no
-    (isnt-no (isnt-i (ne_eqb _ _ c.if-word-ne0.true)))
+pub returns-after-loop-entry : goal.returns-after-loop-entry
+returns-after-loop-entry c = no _ _ _ c.rows-test.true c.if-row-ne0.true
     (cached-past _ _ _ _ _ c.at_unit-home.ensures c.key_in.ensures
-    (passed-end _ _ _ c.if-map-j.true c.loop-j.invariant.0 c.loop-j.invariant.1) (omega arith))))
+    (passed-end _ _ _ c.loop-entry-test.false c.loop-entry.auto.entry-index-end c.loop-entry.invariant) (omega arith))
 
-pub returns-then-map-j-2 : goal.returns-then-map-j-2
-unfolding each
-returns-then-map-j-2 c = sym (left-no _ _ _ 0 c.if-tlb-i.false c.rows.invariant.1
-    (or_no
-    (isnt-no (isnt-i (ne_eqb _ _ c.if-word-ne0.true)))
+pub returns-else-entry-home : goal.returns-else-entry-home
+returns-else-entry-home c = no _ _ _ c.rows-test.true c.if-row-ne0.true
     (cached-at _ _ _ _ _ c.at_unit-home.ensures c.key_in.ensures
-    (passed-hit _ _ _ 0 c.if-map-j.false c.loop-j.invariant.1 (sym c.hits.ensures ∙ c.if-hits.true))
-    ∙ ne_eqb _ _ c.if-map-j-2.true)))
+    (passed-hit _ _ _ 0 c.loop-entry-test.true c.loop-entry.invariant (sym c.hits.ensures ∙ c.if-hits.true))
+    ∙ ne_eqb _ _ c.if-entry-home.false)
+
+pub returns-after-rows : goal.returns-after-rows
+returns-after-rows c =
+    c.rows.invariant.0 ∙ sym (sym (list_all-each W (cached c.args.map.now) _) ∙ rw (take_all _ _ c.rows-test.false) at c.rows.invariant.1)

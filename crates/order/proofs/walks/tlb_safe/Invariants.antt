@@ -1,21 +1,16 @@
-use Prim.Native.Nat.{◌≤◌, ◌-◌}
-use lib.ListN.{length}
+use mathlib.Core.Path.{◌≡◌}
+use mathlib.Core.Bool.{true, ◌||◌}
+use lib.Dec.{eqb}
+use lib.ListN.{take}
+use Rattle.std.specs.List.{list_all}
 use Rattle.numbers.proofs.SearchLaws.{Passed}
-use Rattle.numbers.specs.Tests.{◌or◌, isnt}
-use Rattle.tables.specs.Table.{hit, live}
+use Rattle.tables.specs.Table.{hit}
 use Rattle.tables.specs.Wants.{W, meets}
 use Rattle.tables.specs.Wf.{cached}
-use Rattle.order.proofs.LoopLaws.{Left}
 use Rattle.order.proofs.walks.tlb_safe.Given as goal
 
-abbrev pub invariant-loop-j : goal.invariant-loop-j
-invariant-loop-j l = (l.j ≤ length l.map) × Passed (hit W (meets l.key)) l.map l.j
-
-abbrev pub decreases-loop-j : goal.decreases-loop-j
-decreases-loop-j l = length l.map - l.j
+abbrev pub invariant-loop-entry : goal.invariant-loop-entry
+invariant-loop-entry l = Passed (hit W (meets l.key)) l.map l.entry-index
 
 abbrev pub invariant-rows : goal.invariant-rows
-invariant-rows l = (l.i ≤ length l.tlb) × Left (λ y later. isnt (live W y) or cached l.map y) l.tlb l.i
-
-abbrev pub decreases-rows : goal.decreases-rows
-decreases-rows l = length l.tlb - l.i
+invariant-rows l = (l.safe ≡ true) × (list_all (λ y. eqb y 0 || cached l.map y) (take l.row-index l.tlb) ≡ true)

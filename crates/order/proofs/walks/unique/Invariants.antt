@@ -1,20 +1,21 @@
-use Prim.Native.Nat.{◌≤◌, ◌-◌, ◌+◌}
+use mathlib.Core.Bool.{true}
+use mathlib.Core.Path.{◌≡◌}
+use Prim.Native.Nat.{ℕ}
 use lib.ListN.{length}
-use Rattle.numbers.specs.Tests.{◌or◌, isnt}
-use Rattle.tables.specs.Table.{has, live}
+use Rattle.numbers.proofs.SearchLaws.{Passed}
+use Rattle.tables.specs.Table.{hit, uniq}
 use Rattle.tables.specs.Wants.{W, meets}
-use Rattle.order.specs.Rows.{same_as}
-use Rattle.order.proofs.LoopLaws.{Left, Beyond}
+use Rattle.tables.specs.declared.search.Want.{Want}
+use Rattle.order.specs.Calls.{Gives}
 use Rattle.order.proofs.walks.unique.Given as goal
 
-abbrev pub invariant-loop-j : goal.invariant-loop-j
-invariant-loop-j l = (l.j ≤ length l.table) × Beyond W (meets l.like) l.table (l.i + 1) l.j
-
-abbrev pub decreases-loop-j : goal.decreases-loop-j
-decreases-loop-j l = length l.table - l.j
+abbrev pub invariant-loop-other : goal.invariant-loop-other
+invariant-loop-other g l = (l.once ≡ true) × Passed (hit W (meets l.want)) l.later l.other-index
 
 abbrev pub invariant-rows : goal.invariant-rows
-invariant-rows l = (l.i ≤ length l.table) × Left (λ x later. isnt (live W x) or isnt (has W (meets (same_as l.rows x)) later)) l.table l.i
+invariant-rows g l = (l.once ≡ true)
+    × ((want : ℕ → Want) → Gives (goal.F-post g l.same) want →
+    uniq W (λ x. meets (want x)) l.fn.table ≡ uniq W (λ x. meets (want x)) l.rest)
 
 abbrev pub decreases-rows : goal.decreases-rows
-decreases-rows l = length l.table - l.i
+decreases-rows g l = length l.rest
