@@ -12,11 +12,12 @@ use Rattle.rules.proofs.Lowest.{when}
 use Prim.Native.Nat.{ℕ}
 use Rattle.numbers.specs.Answers.{wordless}
 use Rattle.numbers.specs.Refusals.{number_of}
+use Rattle.numbers.specs.declared.answers.Seen.{Seen}
 use Rattle.numbers.specs.declared.refusals.Refusal.{Refusal}
 use Rattle.tables.specs.declared.state.Tables.{Tables}
 use Rattle.rules.specs.Actions.{Op, Touch, refusals, effect, touch, touched, handed_back, acted}
-use Rattle.access.specs.Lent.{number}
-use Rattle.access.proofs.Answers.{refuses, accepts, guest-below}
+use Rattle.access.specs.Lent.{number, Observed, served, left}
+use Rattle.access.proofs.Answers.{refuses, accepts, guest-below, kept}
 use Rattle.edits.specs.Edits.{after, who_is}
 use Rattle.edits.specs.declared.out.Out.{Out}
 
@@ -41,3 +42,13 @@ module _ (m : Tables) (o : Op) {t : Tables} where
   -- the number of a guest that 4 has passed
   pub holder_is : t ≡ m → 0 ≡ number t o → (g : ℕ) (later : Bool) → when (refusals m o) 4 ≡ (off g guests or later) → {who : ℕ} → who ≡ who_is g → who ≡ guest g
   holder_is l e g later q w = w ∙ cond-true (lt-ltb g guests (guest-below m o (rw l at e) g later q)) _ _
+
+-- an action that leaves the tables as they are, from what is observed of it on what was lent
+pub observed_out : (m : Tables) (o : Op) (ws : List ℕ) → effect m o ≡ m → {t : Tables} → t ≡ m → {s u : Seen} {out : Out} {vs : List ℕ} →
+    out ≡ record { seen = s; tables = m } → s ≡ u → left u vs ≡ served t o ws → after out vs ≡ acted m o ws
+unfolding served
+observed_out m o ws k {t} l {s} {u} {out} {vs} q h e =
+    ap (λ (x : Out). after x vs) q
+    ∙ ap (λ (x : Seen). record { seen = x; tables = m; memory = vs }) h
+    ∙ ap (λ (x : Observed). record { seen = x.seen; tables = m; memory = x.memory }) (rw l at e)
+    ∙ ap (λ (x : Tables). record { seen = (acted m o ws).seen; tables = x; memory = (acted m o ws).memory }) (kept (refusals m o) m o k)

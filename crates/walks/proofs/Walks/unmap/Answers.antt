@@ -1,11 +1,11 @@
 -- `walks::Walks::unmap` meets its contract.
 use mathlib.Core.List.{List}
-use mathlib.Core.Path.{◌≡◌, refl, sym, ap, ◌∙◌}
+use mathlib.Core.Path.{refl, ap, ◌∙◌}
 use Prim.Native.Nat.{ℕ}
-use Rattle.numbers.specs.Entries.{key_of, at_unit}
+use Rattle.numbers.specs.Entries.{key_of}
 use Rattle.numbers.specs.Search.{first}
-use Rattle.tables.specs.State.{map_of, tlb_of}
-use Rattle.tables.specs.Table.{hit, find, seat, put}
+use Rattle.tables.specs.State.{map_of}
+use Rattle.tables.specs.Table.{hit}
 use Rattle.tables.specs.Wants.{W, has_key, everywhere}
 use Rattle.tables.specs.declared.state.Tables.{Tables}
 use Rattle.tables.proofs.TableLaws.{wipe_from-first}
