@@ -5,20 +5,24 @@ use mathlib.Core.List.{List}
 use Prim.Native.Nat.{ℕ, zero, suc, ◌+◌, ◌≤◌, ◌<◌}
 use native.Mathlib.Omega.{arith}
 use lib.Dec.{eqb}
-use borrow.Author.Tests.{eqb-true, eqb-false, leb-true, eq-eqb}
+use borrow.Author.Tests.{eqb-true, eqb-false, leb-true}
+use Rattle.numbers.specs.Answers.{wordless}
+use Rattle.numbers.specs.Refusals.{number_of}
+use Rattle.numbers.specs.declared.answers.Seen.{Seen}
+use Rattle.numbers.specs.declared.refusals.Refusal.{Refusal}
+use Rattle.numbers.proofs.RefusalLaws.{refusal-not-0}
 use Rattle.numbers.specs.Rules.{least}
-use Rattle.numbers.specs.Tests.{◌or◌, isnt}
 use Rattle.numbers.specs.Frames.{row_of, frame_number}
 use Rattle.numbers.specs.declared.frames.Action.{Action}
-use Rattle.numbers.proofs.Bools.{split, and_l, and_r, implies}
+use Rattle.numbers.proofs.Bools.{split, and_l, and_r}
 use Rattle.numbers.proofs.FrameLaws.{no_row, Checked, checked as frame-checked}
 use Rattle.numbers.proofs.FrameLaws.Checked.{fine, unknown, unused, out_of_range}
 use Rattle.tables.specs.declared.state.Tables.{Tables}
-use Rattle.rules.specs.Actions.{Op, refusals, effect, does, Outcome, acted}
+use Rattle.rules.specs.Actions.{Op, refusals, effect, Outcome, acted}
 use Rattle.rules.specs.Calls.{op_of, ◌then◌, action_rules, taken}
-use Rattle.access.specs.Lent.{lent, Observed, observed, served, guest_op}
+use Rattle.access.specs.Lent.{Observed, observed, left, served, guest_op}
 use Rattle.access.proofs.Answers.{refused-by, kept}
-use Rattle.calls.specs.Dispatch.{keeps_tables, kind_rules, stepped, refused, settled, checked}
+use Rattle.calls.specs.Dispatch.{keeps_tables, kind_rules, stepped}
 use Rattle.calls.proofs.FrontLaws.{same_number, frame_refused, frame-passed}
 
 -- ── an action, its kind known ──
@@ -50,16 +54,13 @@ module _ (m : Tables) (a : Action) (ws : List ℕ) where
   by_kind k row e h = h ∙ sym (ap (λ (i : ℕ). acted m (op_of (kinded i a)) ws) e) ∙ known (rw e row)
 
   -- one without a row is refused
-  pub of-no-kind : eqb (row_of a.kind) 0 ≡ true → refused 3 m ws ≡ stepped m a ws
+  pub of-no-kind : eqb (row_of a.kind) 0 ≡ true → record { seen = wordless 3; tables = m; memory = ws } ≡ stepped m a ws
   unfolding stepped ◌then◌ least
   of-no-kind e = refused-by (kind_rules a then refusals m (op_of a)) m (op_of a) ws (rw e) (λ (z : ◌≡◌ {A = ℕ} 3 0). omega arith)
 
-  -- what its frame check says comes before its rule
-  pub settled_is : {n : ℕ} → n ≡ frame_number a → settled n m a ws ≡ taken m a ws
-  unfolding settled
-  settled_is {n} e = split (eqb n 0)
-      (λ t. let z : n ≡ 0 = eqb-true n 0 t in rw t (sym (known (has-row (frame-checked a) (sym e ∙ z))) ∙ frame-passed m a ws e z))
-      (λ t. rw t (frame_refused m a ws e (eqb-false n 0 t)))
+  -- a frame that its check lets through is what its kind asks for
+  pub stepped_is : 0 ≡ frame_number a → stepped m a ws ≡ taken m a ws
+  stepped_is e = sym (known (has-row (frame-checked a) (sym e))) ∙ frame-passed m a ws e refl
 
 -- ── the last arm of a match: none of n kinds from `from` on, and what was said before them ──
 abbrev Others : Type 0 → ℕ → ℕ → ℕ → Type 0
@@ -105,26 +106,26 @@ module _ (a : Action) (keeps : keeps_tables a.kind ≡ true) where
   stays : (m : Tables) → effect m (op_of a) ≡ m
   stays m = guest-kinds (λ k. effect m (op_of (kinded k a)) ≡ m) a.kind keeps refl refl refl refl refl
 
-  served-lent : (m : Tables) (ws : List ℕ) {x : Observed} →
-      x ≡ served (lent m.present m.running m.map m.tlb m.io_map m.io_tlb) (guest_op a) ws → x ≡ served m (op_of a) ws
-  unfolding served does
-  served-lent m ws e =
-      let parts = lent m.present m.running m.map m.tlb m.io_map m.io_tlb in
-      e ∙ ap (λ (o : Op). served parts o ws) guest-op-is
-      ∙ guest-kinds (λ k. served parts (op_of (kinded k a)) ws ≡ served m (op_of (kinded k a)) ws) a.kind keeps refl refl refl refl refl
+-- ── an action that moves nothing: what serves it is what the call takes, and the tables stay ──
+module _ (m : Tables) (a : Action) (ws : List ℕ) where
+  pub refused-still : (r : Refusal) → number_of r ≡ frame_number a →
+      (left (wordless (number_of r)) ws ≡ observed (taken m a ws)) × ((taken m a ws).tables ≡ m)
+  refused-still r e = let q = frame_refused m a ws e (refusal-not-0 r) in (ap observed q, sym (ap (λ (o : Outcome). o.tables) q))
 
--- ── an action that moves nothing, by what its check said: the tables stay, and what serves it on lent parts is what the call takes ──
-module _ (m : Tables) (a : Action) (ws : List ℕ) {n : ℕ} (e : n ≡ frame_number a) (still : (isnt (eqb n 0) or keeps_tables a.kind) ≡ true) where
-  keeps : n ≡ 0 → keeps_tables a.kind ≡ true
-  keeps z = implies (eqb n 0) _ still (eq-eqb n 0 z)
+  module _ (e : 0 ≡ frame_number a) (keeps : keeps_tables a.kind ≡ true) where
+    pub served-still : {x : Observed} → x ≡ served m (guest_op a) ws → x ≡ observed (taken m a ws)
+    unfolding served
+    served-still h = h ∙ ap (λ (o : Op). served m o ws) (guest-op-is a keeps) ∙ ap observed (frame-passed m a ws e refl)
 
-  pub still-tables : (taken m a ws).tables ≡ m
-  still-tables = split (eqb n 0)
-      (λ t. sym (kept (action_rules m a) m (op_of a) (stays a (keeps (eqb-true n 0 t)) m)))
-      (λ t. sym (ap (λ (o : Outcome). o.tables) (frame_refused m a ws e (eqb-false n 0 t))))
+    pub tables-still : (taken m a ws).tables ≡ m
+    tables-still = sym (kept (action_rules m a) m (op_of a) (stays a keeps m))
 
-  pub checked-as : {x : Observed} → x ≡ checked n (lent m.present m.running m.map m.tlb m.io_map m.io_tlb) a ws → x ≡ observed (taken m a ws)
-  unfolding checked served
-  checked-as h = split (eqb n 0)
-      (λ t. let z = eqb-true n 0 t in served-lent a (keeps z) m ws (rw t at h) ∙ ap observed (frame-passed m a ws e z))
-      (λ t. (rw t at h) ∙ ap observed (frame_refused m a ws e (eqb-false n 0 t)))
+-- and where the tables are, from what is observed of it on what was lent of them
+pub in_place : (m : Tables) (a : Action) (ws : List ℕ) {t : Tables} → t ≡ m → {s : Seen} {vs : List ℕ} →
+    left s vs ≡ observed (taken t a ws) → (taken t a ws).tables ≡ t → record { seen = s; tables = m; memory = vs } ≡ taken m a ws
+in_place m a ws {t} l {s} {vs} p q =
+    let o = taken m a ws in
+    let seen : left s vs ≡ observed o = rw l at p in
+    let stays : o.tables ≡ m = rw l at q in
+    ap (λ (x : Observed). record { seen = x.seen; tables = m; memory = x.memory }) seen
+    ∙ ap (λ (x : Tables). record { seen = o.seen; tables = x; memory = o.memory }) (sym stays)

@@ -7,11 +7,11 @@ use Rattle.calls.proofs.referee.Referee.act.Goals as goal
 
 pub returns-then-frame-mem : goal.returns-then-frame-mem
 unfolding ◌or◌ isnt frame_bytes pages page_words
-returns-then-frame-mem c = rw c.wordless.ensures (act-1 _ _ _ c.if-frame-mem.true)
+returns-then-frame-mem c = rw c.refused.ensures (act-1 _ _ _ c.if-frame-mem.true)
 
 pub returns-then-not-wf : goal.returns-then-not-wf
 unfolding ◌or◌ isnt frame_bytes pages page_words
-returns-then-not-wf c = rw c.wordless-then-not-wf.ensures (act-2 _ _ _ c.if-frame-mem.false (sym c.wf.ensures ∙ c.if-not-wf.true))
+returns-then-not-wf c = rw c.refused-then-not-wf.ensures (act-2 _ _ _ c.if-frame-mem.false (sym c.wf.ensures ∙ c.if-not-wf.true))
 
 pub returns : goal.returns
 unfolding ◌or◌ isnt frame_bytes pages page_words

@@ -21,11 +21,11 @@ returns-in-3 c = let t = c.args in by_kind t.self.tables t.a t.mem.now 0x03 refl
 
 pub returns-in-4 : goal.returns-in-4
 unfolding row_of kinds first
-returns-in-4 c = let t = c.args in by_kind t.self.tables t.a t.mem.now 0x04 refl c.in-4.is c.dma_read.ensures
+returns-in-4 c = let t = c.args in by_kind t.self.tables t.a t.mem.now 0x04 refl c.in-4.is c.read-in-4.ensures
 
 pub returns-in-5 : goal.returns-in-5
 unfolding row_of kinds first
-returns-in-5 c = let t = c.args in by_kind t.self.tables t.a t.mem.now 0x05 refl c.in-5.is c.dma_write.ensures
+returns-in-5 c = let t = c.args in by_kind t.self.tables t.a t.mem.now 0x05 refl c.in-5.is c.write-in-5.ensures
 
 pub returns-in-16 : goal.returns-in-16
 unfolding row_of kinds first
@@ -81,29 +81,29 @@ returns-in-32 c = let t = c.args in by_kind t.self.tables t.a t.mem.now 0x20 ref
 
 pub returns-in-33 : goal.returns-in-33
 unfolding row_of kinds first
-returns-in-33 c = let t = c.args in by_kind t.self.tables t.a t.mem.now 0x21 refl c.in-33.is (c.iommu_reclaim_page.ensures _)
+returns-in-33 c = let t = c.args in by_kind t.self.tables t.a t.mem.now 0x21 refl c.in-33.is (c.reclaim_page-in-33.ensures _)
 
 pub returns-in-34 : goal.returns-in-34
 unfolding row_of kinds first
-returns-in-34 c = let t = c.args in by_kind t.self.tables t.a t.mem.now 0x22 refl c.in-34.is (c.iommu_map.ensures _)
+returns-in-34 c = let t = c.args in by_kind t.self.tables t.a t.mem.now 0x22 refl c.in-34.is (c.map-in-34.ensures _)
 
 pub returns-in-35 : goal.returns-in-35
 unfolding row_of kinds first
-returns-in-35 c = let t = c.args in by_kind t.self.tables t.a t.mem.now 0x23 refl c.in-35.is (c.iommu_unmap.ensures _)
+returns-in-35 c = let t = c.args in by_kind t.self.tables t.a t.mem.now 0x23 refl c.in-35.is (c.unmap-in-35.ensures _)
 
 pub returns-in-36 : goal.returns-in-36
 unfolding row_of kinds first
-returns-in-36 c = let t = c.args in by_kind t.self.tables t.a t.mem.now 0x24 refl c.in-36.is (c.iommu_fill.ensures _)
+returns-in-36 c = let t = c.args in by_kind t.self.tables t.a t.mem.now 0x24 refl c.in-36.is (c.fill-in-36.ensures _)
 
 pub returns-in-37 : goal.returns-in-37
 unfolding row_of kinds first
-returns-in-37 c = let t = c.args in by_kind t.self.tables t.a t.mem.now 0x25 refl c.in-37.is (c.iommu_drop.ensures _)
+returns-in-37 c = let t = c.args in by_kind t.self.tables t.a t.mem.now 0x25 refl c.in-37.is (c.drop-in-37.ensures _)
 
 -- what lies between the kinds
 pub returns-in-0 : goal.returns-in-0
 unfolding row_of kinds first
 returns-in-0 c = let t = c.args in
-    rw c.wordless.ensures (of-no-kind t.self.tables t.a _ (elim c.in-0-1.branch [
+    rw c.refused.ensures (of-no-kind t.self.tables t.a _ (elim c.in-0-1.branch [
       | in-0-1 w ↦ let none : t.a.kind ≡ 0 = omega arith in rw none
       | in_default-1 w ↦ none-of-them t.a.kind (omega arith) (assumption)
     ]))
