@@ -1,29 +1,27 @@
 -- A list of actions, from what is prepared to what it comes to.
-use mathlib.Core.Path.{◌≡◌, refl, sym, ap, ◌∙◌}
+use mathlib.Core.Path.{◌≡◌, refl, ap, ◌∙◌}
 use mathlib.Core.Bool.{Bool, true, false, cond}
 use mathlib.Core.List.{List}
 use Prim.Native.Nat.{ℕ, zero, suc, ◌+◌, ◌-◌, ◌*◌, ◌/◌, ◌≤◌, ◌<◌, ◌^◌}
 use native.Mathlib.Numerals.{add-one}
 use native.Mathlib.Omega.{arith}
-use lib.Dec.{eqb, ltb}
+use lib.Dec.{eqb}
 use lib.ListN.{length, take, drop, set, length-set}
-use borrow.Author.Tests.{eqb-true}
-use Rattle.numbers.specs.Sizes.{frame_bytes, memory_words}
+use borrow.Author.Tests.{eqb-true, ne_eqb}
+use Rattle.numbers.specs.Refusals.{number_of}
+use Rattle.numbers.specs.declared.refusals.Refusal.{Refusal}
+use Rattle.numbers.proofs.RefusalLaws.{refusal-not-0}
+use Rattle.numbers.specs.Sizes.{frame_bytes}
 use Rattle.numbers.specs.Rules.{least}
 use Rattle.numbers.specs.Frames.{decode}
-use Rattle.numbers.specs.Tests.{◌or◌, isnt}
 use Rattle.numbers.specs.declared.answers.Seen.{Seen}
 use Rattle.numbers.specs.declared.frames.Action.{Action}
-use Rattle.numbers.proofs.Bools.{split, isnt-i, isnt-no}
-use Rattle.tables.specs.Wf.{wf}
+use Rattle.numbers.proofs.Bools.{split}
 use Rattle.tables.specs.declared.state.Tables.{Tables}
 use Rattle.rules.specs.Actions.{does}
 use Rattle.rules.specs.Calls.{op_of, action_rules, frame_at, Machine, taken, after, answer, accepted_of, written, listed}
 use Rattle.rules.specs.Calls as calls
 use Rattle.rules.proofs.Words.{length-touched}
-use Rattle.access.specs.Lent.{Observed, observed, left}
-use Rattle.edits.specs.Edits as edits
-use Rattle.edits.specs.declared.out.Out.{Out}
 use Rattle.lists.specs.Lists.{ended, placed, handled, went, own_rules, begun}
 use Rattle.lists.specs.declared.Ran.{Ran}
 
@@ -38,20 +36,11 @@ Answers i s numbers words k numbers' words' =
     (k ≡ cond (eqb s.number 0) 1 0) × (numbers' ≡ set numbers i s.number) × (words' ≡ set words i s.word)
 
 module _ (a : Action) (i : ℕ) (g : Ran) (ws numbers words : List ℕ) where
-  -- from what a method gives
-  pub handled-by : {r : Out} {k : ℕ} {vs numbers' words' : List ℕ} → edits.after r vs ≡ taken g.tables a ws →
-      Answers i r.seen numbers words k numbers' words' → ended (more g k r.tables) vs numbers' words' ≡ handled a i (ended g ws numbers words)
+  -- from what is left of it
+  pub handled-by : {s : Seen} {m : Tables} {k : ℕ} {vs numbers' words' : List ℕ} → record { seen = s; tables = m; memory = vs } ≡ taken g.tables a ws →
+      Answers i s numbers words k numbers' words' → ended (more g k m) vs numbers' words' ≡ handled a i (ended g ws numbers words)
   unfolding handled
   handled-by e p = rw (p.0, p.1, p.2) (ap (placed i (ended g ws numbers words)) e)
-
-  -- from what is observed of an action that leaves the tables as they are
-  pub handled-still : (taken g.tables a ws).tables ≡ g.tables → {s : Seen} {k : ℕ} {vs numbers' words' : List ℕ} → left s vs ≡ observed (taken g.tables a ws) →
-      Answers i s numbers words k numbers' words' → ended (more g k g.tables) vs numbers' words' ≡ handled a i (ended g ws numbers words)
-  unfolding handled
-  handled-still still e p =
-      let put : Tables → Observed → calls.Ran =
-      λ m o. placed i (ended g ws numbers words) (record { seen = o.seen; tables = m; memory = o.memory }) in
-      rw (p.0, p.1, p.2) (ap (put g.tables) e ∙ ap (λ (m : Tables). put m (observed (taken g.tables a ws))) (sym still))
 
 -- ── a list, one action more ──
 pub went-none : (f : ℕ → Action) (l : calls.Ran) → l ≡ went f 0 l
@@ -110,18 +99,13 @@ module _ (odd : Bool) (n : ℕ) (m : Tables) (memory numbers words : ℕ) where
   abbrev first : ℕ → ℕ → Ran
   first number handled = record { number = number; handled = handled; accepted = 0; tables = m }
 
-  pub begun-1 : (odd or isnt (eqb memory memory_words) or ltb numbers n or ltb words n) ≡ true → first 1 0 ≡ begun odd n m memory numbers words
-  unfolding begun least
-  begun-1 e = rw e
+  pub begun-with : (r : Refusal) → number_of r ≡ least (own_rules odd n m memory numbers words) → first (number_of r) 0 ≡ begun odd n m memory numbers words
+  unfolding begun
+  begun-with r e = rw (← e, ne_eqb (number_of r) 0 (refusal-not-0 r))
 
-  module _ (e : (odd or isnt (eqb memory memory_words) or ltb numbers n or ltb words n) ≡ false) where
-    pub begun-2 : wf m ≡ false → first 2 0 ≡ begun odd n m memory numbers words
-    unfolding begun least
-    begun-2 h = rw (e, isnt-i h)
-
-    pub begun-0 : wf m ≡ true → first 0 n ≡ begun odd n m memory numbers words
-    unfolding begun least
-    begun-0 h = rw (e, isnt-no h)
+  pub begun-0 : 0 ≡ least (own_rules odd n m memory numbers words) → first 0 n ≡ begun odd n m memory numbers words
+  unfolding begun
+  begun-0 e = rw (← e)
 
 module _ (odd : Bool) (n : ℕ) (m : Tables) (memory numbers words : ℕ) {r : Ran} (e : r ≡ begun odd n m memory numbers words) where
   pub none-accepted : r.accepted ≡ 0

@@ -1,17 +1,18 @@
 // A list of actions, one after the other: as frames in lent bytes, and as decoded actions.
 #![tactic(auto)]
 
-ghost use Rattle.std.specs.Prelude.{◌≡◌, ◌*◌, ◌≤◌, ◌<◌, cond, eqb, length, set};
+ghost use Rattle.std.specs.Prelude.{◌≡◌, ◌*◌, ◌≤◌, ◌<◌, length};
+ghost use Rattle.numbers.specs.Refusals.{numbered, number_of};
+ghost use Rattle.numbers.specs.Rules.{least};
 ghost use Rattle.numbers.specs.Sizes.{frame_bytes};
-ghost use Rattle.numbers.specs.Frames.{frame_number};
 ghost use Rattle.rules.specs.Calls.{frame_at, run, run_actions};
-ghost use Rattle.lists.specs.Lists.{handled, went, begun, ended};
+ghost use Rattle.lists.specs.Lists.{handled, went, own_rules, begun, ended};
 
-use access::cells;
 use calls::referee;
 use calls::referee::Referee;
-use numbers::answers::Seen;
+use numbers::cells;
 use numbers::frames::Action;
+use numbers::refusals::Refusal;
 use tables::state::Tables;
 
 // What a list gives back: its own number, how many actions are handled and how many were accepted, and the tables. On the way the count
@@ -24,136 +25,67 @@ pub struct Ran {
     pub tables: Tables,
 }
 
-// Before the first action.
-fn first(number: u8, handled: usize, tables: Tables) -> Ran
-    ensures { result ≡ record { number = number; handled = handled; accepted = 0; tables = tables } }
-{
-    Ran {
-        number,
-        handled,
-        accepted: 0,
-        tables,
-    }
-}
-
-fn one_if(yes: bool) -> usize
-    ensures { result ≡ cond yes 1 0 }
-{
-    if yes { 1 } else { 0 }
-}
-
-// ── one action ──
-// An answer at its place, and 1 if it accepts.
-fn answer(seen: Seen, at: usize, numbers: &mut [u8], words: &mut [u64]) -> usize
-    ensures { (result ≡ cond (eqb seen.number 0) 1 0) × (numbers.new ≡ set numbers.old at seen.number)
-        × (words.new ≡ set words.old at seen.word) }
-{
-    cells::set_byte(numbers, at, seen.number);
-    cells::store(words, at, seen.word);
-    one_if(seen.number == 0)
-}
-
-// Any action whose frame check said this number, its answer at its place.
-fn settled(
-    ran: Ran,
-    check: u8,
+// One action, its answer at its place.
+fn handle(
+    ran: &mut Ran,
     a: Action,
     at: usize,
     mem: &mut [u64],
     numbers: &mut [u8],
     words: &mut [u64],
-) -> Ran
-    requires { (check ≡ frame_number a) × (ran.accepted < ran.handled) }
-    ensures { ended result mem.new numbers.new words.new
-        ≡ handled a at (ended ran mem.old numbers.old words.old) }
+)
+    requires { ran.old.accepted < ran.old.handled }
+    ensures { ended ran.new mem.new numbers.new words.new
+        ≡ handled a at (ended ran.old mem.old numbers.old words.old) }
 {
-    let t = ran.tables;
-    let referee = Referee { tables: t };
-    let out = referee.settle(check, a, mem);
-    let one = answer(out.seen, at, numbers, words);
-    let tables = out.tables;
-    Ran {
-        number: ran.number,
-        handled: ran.handled,
-        accepted: ran.accepted + one,
-        tables,
+    let seen = referee::take_in_place(&mut ran.tables, a, mem);
+    cells::set(numbers, at, seen.number);
+    cells::set(words, at, seen.word);
+    if seen.number == 0 {
+        ran.accepted += 1;
     }
 }
 
-// Any action.
-fn next(
-    ran: Ran,
-    a: Action,
-    at: usize,
-    mem: &mut [u64],
-    numbers: &mut [u8],
-    words: &mut [u64],
-) -> Ran
-    requires { ran.accepted < ran.handled }
-    ensures { ended result mem.new numbers.new words.new
-        ≡ handled a at (ended ran mem.old numbers.old words.old) }
+// ── before the first action ──
+// 1 for lengths, 2 for tables that are not well formed: once for a list, since every action keeps good order.
+#[tactic(auto, using(numbers::proofs::Bools::not_is, numbers::proofs::Bools::or_is), unfolding(numbers::specs::Rules::least, numbers::specs::Sizes::pages, numbers::specs::Sizes::page_words))]
+fn check(
+    referee: Referee,
+    odd: bool,
+    n: usize,
+    memory: usize,
+    numbers: usize,
+    words: usize,
+) -> Result<(), Refusal>
+    ensures { numbered result ≡ least (own_rules odd n referee.tables memory numbers words) }
 {
-    settled(ran, a.number(), a, at, mem, numbers, words)
+    let short = (memory != Referee::WORDS) | ((numbers < n) | (words < n));
+    Refusal::Lengths.when(odd | short)?;
+    Refusal::Disorder.when(!order::wf(referee.tables))
 }
 
-// ── lists ──
-// The frames of lent bytes, one after the other. Only an action that may change the tables has them moved.
-fn each_frame(
-    first: Ran,
-    bytes: &[u8],
-    mem: &mut [u64],
-    numbers: &mut [u8],
-    words: &mut [u64],
-) -> Ran
-    requires { (first.accepted ≡ 0) × (first.handled * frame_bytes ≤ length bytes.now) }
-    ensures { ended result mem.new numbers.new words.new
-        ≡ went (frame_at bytes.now) first.handled (ended first mem.old numbers.old words.old) }
-{
-    let count = first.handled;
-    let mut ran = first;
-    let mut i: usize = 0;
-    while i < count {
-        let at = i * Action::BYTES;
-        let end = at + Action::BYTES;
-        let a = Action::decode(&bytes[at..end]);
-        let check = a.number();
-        if referee::moves_nothing(check, a.kind) {
-            let seen = referee::serve(
-                check,
-                a,
-                &ran.tables.present,
-                &ran.tables.running,
-                &ran.tables.map,
-                &ran.tables.tlb,
-                &ran.tables.io_map,
-                &ran.tables.io_tlb,
-                mem,
-            );
-            let one = answer(seen, i, numbers, words);
-            ran.accepted = ran.accepted + one;
-        } else {
-            ran = settled(ran, check, a, i, mem, numbers, words);
-        }
-        i += 1;
-    }
-    ran
-}
-
-// Before the first action. 1 for lengths, 2 for tables that are not well formed: once for a list, since every action keeps good order.
 // All actions will be handled, or none where the list is refused.
 fn begin(referee: Referee, odd: bool, n: usize, memory: usize, numbers: usize, words: usize) -> Ran
     ensures { result ≡ begun odd n referee.tables memory numbers words }
 {
-    let short = (memory != Referee::WORDS) | ((numbers < n) | (words < n));
-    if odd | short {
-        return first(1, 0, referee.tables);
+    let tables = referee.tables;
+    match check(referee, odd, n, memory, numbers, words) {
+        Ok(()) => Ran {
+            number: 0,
+            handled: n,
+            accepted: 0,
+            tables,
+        },
+        Err(refusal) => Ran {
+            number: u8::from(refusal),
+            handled: 0,
+            accepted: 0,
+            tables,
+        },
     }
-    if !order::wf(referee.tables) {
-        return first(2, 0, referee.tables);
-    }
-    first(0, n, referee.tables)
 }
 
+// ── lists ──
 // A list of frames.
 pub fn run(
     referee: Referee,
@@ -167,11 +99,16 @@ pub fn run(
 {
     let n = bytes.len() / Action::BYTES;
     let odd = bytes.len() % Action::BYTES != 0;
-    let first = begin(referee, odd, n, mem.len(), numbers.len(), words.len());
-    each_frame(first, bytes, mem, numbers, words)
+    let mut ran = begin(referee, odd, n, mem.len(), numbers.len(), words.len());
+    for i in 0..ran.handled {
+        let at = i * Action::BYTES;
+        let a = Action::decode(&bytes[at..at + Action::BYTES]);
+        handle(&mut ran, a, i, mem, numbers, words);
+    }
+    ran
 }
 
-// A list of decoded actions. The tables are moved for each action.
+// A list of decoded actions.
 pub fn run_actions(
     referee: Referee,
     actions: &[Action],
@@ -182,18 +119,10 @@ pub fn run_actions(
     ensures { ended result mem.new numbers.new words.new
         ≡ run_actions actions.now (record { tables = referee.tables; memory = mem.old }) numbers.old words.old }
 {
-    let mut ran = begin(
-        referee,
-        false,
-        actions.len(),
-        mem.len(),
-        numbers.len(),
-        words.len(),
-    );
-    let mut i: usize = 0;
-    while i < ran.handled {
-        ran = next(ran, actions[i], i, mem, numbers, words);
-        i += 1;
+    let n = actions.len();
+    let mut ran = begin(referee, false, n, mem.len(), numbers.len(), words.len());
+    for i in 0..ran.handled {
+        handle(&mut ran, actions[i], i, mem, numbers, words);
     }
     ran
 }

@@ -1,0 +1,7 @@
+use mathlib.Core.Path.{◌≡◌}
+use Rattle.rules.specs.Calls.{frame_at}
+use Rattle.lists.specs.Lists.{ended, went}
+use Rattle.lists.proofs.run.Given as goal
+
+abbrev pub invariant-loop-i : goal.invariant-loop-i
+invariant-loop-i l = ended l.ran l.mem l.numbers l.words ≡ went (frame_at l.bytes) l.i (ended l.initial.ran l.initial.mem l.initial.numbers l.initial.words)
