@@ -50,16 +50,24 @@ fn still(t: Lent, a: Action, mem: &mut [u64]) -> Option<Seen>
     Some(guests::by_kind(t, a, mem))
 }
 
-// A decoded action in front of tables that stay where they are: only one that may change them has them moved.
-pub fn take_in_place(t: &mut Tables, a: Action, mem: &mut [u64]) -> Seen
-    ensures { record { seen = result; tables = t.new; memory = mem.new } ≡ taken t.old a mem.old }
+// An action by its kind, which may move the tables.
+fn step_in_place(t: &mut Tables, a: Action, mem: &mut [u64]) -> Seen
+    ensures { record { seen = result; tables = t.new; memory = mem.new } ≡ stepped t.old a mem.old }
 {
-    if let Some(seen) = still(t.lend(), a, mem) {
-        return seen;
-    }
     let out = Referee { tables: *t }.step(a, mem);
     *t = out.tables;
     out.seen
+}
+
+// A decoded action in front of tables that stay where they are: only one that may change them has them moved, and apart from here, since a
+// function pays at entry for each local that holds tables.
+pub fn take_in_place(t: &mut Tables, a: Action, mem: &mut [u64]) -> Seen
+    ensures { record { seen = result; tables = t.new; memory = mem.new } ≡ taken t.old a mem.old }
+{
+    match still(t.lend(), a, mem) {
+        Some(seen) => seen,
+        None => step_in_place(t, a, mem),
+    }
 }
 
 impl Referee {
