@@ -1,51 +1,51 @@
--- What a loop knows on its way: through the digits of a line, to the next feed, over all feeds, along an unfinished line.
+-- What a loop knows on its way: through the digits of a line, over all feeds, along an unfinished line.
 use mathlib.Core.Path.{◌≡◌, refl, sym, ◌∙◌, ap}
-use mathlib.Core.Bool.{Bool, true, false, cond, ◌&&◌, ◌||◌}
+use mathlib.Core.Bool.{Bool, true, false, cond}
 use mathlib.Core.List.{List, [], ◌∷◌, ◌++◌, append_assoc, append-nil}
-use mathlib.Core.Logic.{⊎_elim}
 use Prim.Native.Nat.{ℕ, suc, ◌+◌, ◌-◌, ◌*◌, ◌≤◌, ◌<◌}
 use native.Mathlib.Numerals.{add-one}
 use native.Mathlib.Omega.{arith}
-use lib.Dec.{eqb, leb}
+use lib.Dec.{eqb, leb, ltb}
 use lib.ListN.{length, get_or, take, drop, set, length-set, drop_of_length-le}
 use lib.Seq.{drop-cons, take-suc-set, take_all}
-use borrow.Author.Tests.{leb-true, leb-false, lt-ltb, le-ltb, eq-eqb, ne_eqb}
+use borrow.Author.Tests.{lt-ltb, le-ltb, ltb-true, ltb-false, eq-eqb, ne_eqb}
+use Rattle.std.specs.Prelude.{Option, Some, None}
+use Rattle.std.specs.List.{count_by, position_or_len}
+use Rattle.std.proofs.lemmas.List.Recursion.{is_sum_by, is_position_or_len}
 use Rattle.numbers.specs.Sizes.{frame_bytes}
 use Rattle.numbers.specs.Search.{first}
-use Rattle.numbers.specs.Tests.{◌and◌, ◌or◌}
-use Rattle.numbers.proofs.Bools.{split, and_l, and_i, and-no-l, and-no-r, or-e, or_l, or_r}
-use Rattle.numbers.proofs.SearchLaws.{first-hit, first-skip}
+use Rattle.numbers.specs.Tests.{◌and◌}
+use Rattle.numbers.proofs.Bools.{split, and_i, and-no-l, and-no-r}
 use Rattle.text.specs.Text.{digit, line_digits, all_digits, well_shaped, bytes_of, feed}
-use Rattle.text.specs.Walks.{nothing_heard, heard, pushed, added, feeds}
+use Rattle.text.specs.Walks.{heard, pushed, added, feeds}
 use Rattle.text.specs.declared.line.Line.{Line}
 
--- ── a digit ──
-module _ (b : ℕ) where
-  pub from_on : (low high : ℕ) → (leb low b && leb b high) ≡ true → low ≤ b
-  unfolding ◌and◌
-  from_on low high t = leb-true low b (and_l (leb low b) (leb b high) t)
+-- ── what a byte says as a digit ──
+abbrev pub said : ℕ → Option ℕ
+said d = cond (ltb d 16) (Some d) None
 
-  pub digit_low : (leb 48 b && leb b 57) ≡ true → b - 48 ≡ digit b
-  unfolding digit ◌and◌
-  digit_low t = rw t
+pub digit-said : (d : ℕ) {v : ℕ} → Some v ≡ said d → (d < 16) × (v ≡ d)
+digit-said d {v} e = split (ltb d 16)
+    (λ t. let q : Some v ≡ Some d = rw t at e in (ltb-true d 16 t, cc))
+    (λ t. let q : Some v ≡ None = rw t at e in cc)
 
-  pub digit-high : (leb 48 b && leb b 57) ≡ false → (leb 97 b && leb b 102) ≡ true → b - 87 ≡ digit b
-  unfolding digit ◌and◌
-  digit-high e t = rw (e, t)
-
-  pub digit-none : (leb 48 b && leb b 57) ≡ false → (leb 97 b && leb b 102) ≡ false → 16 ≡ digit b
-  unfolding digit ◌and◌
-  digit-none e t = rw (e, t)
-
--- two bytes that are both digits
-pub both-digits : (high low : ℕ) → (leb 16 high || leb 16 low) ≡ false → (high < 16) × (low < 16)
-unfolding ◌or◌
-both-digits high low e = (leb-false 16 high (or_l (leb 16 high) (leb 16 low) e), leb-false 16 low (or_r (leb 16 high) (leb 16 low) e))
+pub none-said : (d : ℕ) → None ≡ said d → 16 ≤ d
+none-said d e = split (ltb d 16)
+    (λ t. let q : None ≡ Some d = rw t at e in cc)
+    (λ t. ltb-false d 16 t)
 
 -- ── the digits of a line, two by two ──
 both : {x y : Bool} → x ≡ true → y ≡ true → (z : Bool) → (x and (y and z)) ≡ z
 unfolding ◌and◌
 both p q z = rw (p, q)
+
+pub too_long : (line : List ℕ) → (length line ≡ line_digits → ⊥) → None ≡ heard line
+unfolding heard well_shaped
+too_long line n = rw (and-no-l (all_digits line) (ne_eqb _ _ n))
+
+not-digits : (line : List ℕ) → all_digits line ≡ false → None ≡ heard line
+unfolding heard well_shaped
+not-digits line e = rw (and-no-r (eqb (length line) line_digits) e)
 
 -- the first i bytes are spelt, and what is left decides
 pub record Spelt (line bytes : List ℕ) (i : ℕ) : Type 0 where
@@ -72,37 +72,37 @@ module _ (line bytes : List ℕ) (i : ℕ) (n : length line ≡ line_digits) (q 
       ∙ ap (λ (r : List ℕ). get_or line (2 * i) 0 ∷ r) (ap (λ (j : ℕ). drop j line) e ∙ drop-cons line (2 * i + 1) 0 k
       ∙ ap (λ (j : ℕ). get_or line (2 * i + 1) 0 ∷ drop j line) f)
 
-  module _ {high low : ℕ} (h : high ≡ digit (get_or line (2 * i) 0)) (w : low ≡ digit (get_or line (2 * i + 1) 0)) where
-    pub spelt-more : (leb 16 high || leb 16 low) ≡ false → Spelt line (set bytes i (high * 16 + low)) (i + 1)
-    unfolding all_digits bytes_of
-    spelt-more e =
-        let a : digit (get_or line (2 * i) 0) < 16 = rw h at (both-digits high low e).0 in
-        let b : digit (get_or line (2 * i + 1) 0) < 16 = rw w at (both-digits high low e).1 in
-        let t : i < length bytes = omega (arith, q.room) in
-        let v = digit (get_or line (2 * i) 0) * 16 + digit (get_or line (2 * i + 1) 0) in
-        let set_there : take (i + 1) (set bytes i (high * 16 + low)) ≡ take i bytes ++ v ∷ [] =
-        rw (h, w, add-one i) (take-suc-set bytes i v t) in
-        record {
-          upto = omega arith;
-          room = length-set bytes i _ ∙ q.room;
-          shape = q.shape ∙ ap all_digits two-more ∙ both (lt-ltb _ _ a) (lt-ltb _ _ b) _;
-          spells = q.spells ∙ ap (λ (r : List ℕ). take i bytes ++ bytes_of r) two-more
-              ∙ sym (append_assoc (take i bytes) (v ∷ []) (bytes_of (drop (2 * (i + 1)) line)))
-              ∙ ap (λ (r : List ℕ). r ++ bytes_of (drop (2 * (i + 1)) line)) (sym set_there);
-        }
+  pub spelt-more : {high low : ℕ} → Some high ≡ said (digit (get_or line (2 * i) 0)) → Some low ≡ said (digit (get_or line (2 * i + 1) 0)) →
+      Spelt line (set bytes i (high * 16 + low)) (i + 1)
+  unfolding all_digits bytes_of
+  spelt-more {high} {low} e f =
+      let a = digit-said (digit (get_or line (2 * i) 0)) e in
+      let b = digit-said (digit (get_or line (2 * i + 1) 0)) f in
+      let t : i < length bytes = omega (arith, q.room) in
+      let v = digit (get_or line (2 * i) 0) * 16 + digit (get_or line (2 * i + 1) 0) in
+      let set_there : take (i + 1) (set bytes i (high * 16 + low)) ≡ take i bytes ++ v ∷ [] =
+      rw (a.1, b.1, add-one i) (take-suc-set bytes i v t) in
+      record {
+        upto = omega arith;
+        room = length-set bytes i _ ∙ q.room;
+        shape = q.shape ∙ ap all_digits two-more ∙ both (lt-ltb _ _ a.0) (lt-ltb _ _ b.0) _;
+        spells = q.spells ∙ ap (λ (r : List ℕ). take i bytes ++ bytes_of r) two-more
+            ∙ sym (append_assoc (take i bytes) (v ∷ []) (bytes_of (drop (2 * (i + 1)) line)))
+            ∙ ap (λ (r : List ℕ). r ++ bytes_of (drop (2 * (i + 1)) line)) (sym set_there);
+      }
 
-    pub spelt-wrong : (leb 16 high || leb 16 low) ≡ true → all_digits line ≡ false
-    unfolding all_digits ◌or◌
-    spelt-wrong e =
-        q.shape ∙ ap all_digits two-more
-        ∙ ⊎_elim
-        (λ t. let k : 16 ≤ digit (get_or line (2 * i) 0) = rw h at (leb-true 16 high t) in and-no-l _ (le-ltb _ _ k))
-        (λ t. let k : 16 ≤ digit (get_or line (2 * i + 1) 0) = rw w at (leb-true 16 low t) in and-no-r _ (and-no-l _ (le-ltb _ _ k)))
-        (or-e (leb 16 high) (leb 16 low) e)
+  -- one that is no digit
+  pub high-none : None ≡ said (digit (get_or line (2 * i) 0)) → None ≡ heard line
+  unfolding all_digits
+  high-none e = not-digits line (q.shape ∙ ap all_digits two-more ∙ and-no-l _ (le-ltb _ _ (none-said _ e)))
+
+  pub low-none : None ≡ said (digit (get_or line (2 * i + 1) 0)) → None ≡ heard line
+  unfolding all_digits
+  low-none e = not-digits line (q.shape ∙ ap all_digits two-more ∙ and-no-r _ (and-no-l _ (le-ltb _ _ (none-said _ e))))
 
 -- so a line is heard whole, or not at all
 pub all-spelt : (line bytes : List ℕ) (i : ℕ) → length line ≡ line_digits → frame_bytes ≤ i → Spelt line bytes i →
-    record { good = true; bytes = bytes } ≡ heard line
+    Some bytes ≡ heard line
 unfolding heard well_shaped all_digits bytes_of line_digits
 all-spelt line bytes i n l q =
     let k : 2 * i ≡ length line = omega (arith, q.upto) in
@@ -113,64 +113,10 @@ all-spelt line bytes i n l q =
     q.spells ∙ ap (λ (r : List ℕ). take i bytes ++ bytes_of r) none ∙ append-nil _ ∙ take_all i bytes (omega (arith, q.room)) in
     rw (and_i (eq-eqb _ _ n) shape, bytes-are)
 
-pub too_long : (line : List ℕ) → (length line ≡ line_digits → ⊥) → nothing_heard ≡ heard line
-unfolding heard well_shaped
-too_long line n = rw (and-no-l (all_digits line) (ne_eqb _ _ n))
-
-pub not-digits : (line : List ℕ) → all_digits line ≡ false → nothing_heard ≡ heard line
-unfolding heard well_shaped
-not-digits line e = rw (and-no-r (eqb (length line) line_digits) e)
-
--- ── the next feed ──
-drop-one : (bytes : List ℕ) (i : ℕ) → i < length bytes → drop i bytes ≡ get_or bytes i 0 ∷ drop (i + 1) bytes
-drop-one bytes i l = rw (add-one, drop-cons bytes i 0)
-
--- where it is, seen from i: the same from each place up to it
-abbrev pub ahead : List ℕ → ℕ → ℕ
-ahead bytes i = i + first (eqb feed) (drop i bytes)
-
-pub ahead-le : (bytes : List ℕ) (i : ℕ) {e : ℕ} → e ≡ ahead bytes i → i ≤ e
-ahead-le bytes i e = omega arith
-
-pub ahead_more : (bytes : List ℕ) (i : ℕ) → i < length bytes → (feed ≡ get_or bytes i 0 → ⊥) → ahead bytes i ≡ ahead bytes (i + 1)
-ahead_more bytes i l e =
-    let f : first (eqb feed) (drop i bytes) ≡ suc (first (eqb feed) (drop (i + 1) bytes)) =
-    ap (first (eqb feed)) (drop-one bytes i l) ∙ first-skip _ _ _ (ne_eqb _ _ e) in
-    omega arith
-
-pub ahead-here : (bytes : List ℕ) (i : ℕ) → i < length bytes → feed ≡ get_or bytes i 0 → i ≡ ahead bytes i
-ahead-here bytes i l e =
-    let f : first (eqb feed) (drop i bytes) ≡ 0 = ap (first (eqb feed)) (drop-cons bytes i 0 l) ∙ first-hit _ _ _ (eq-eqb _ _ e) in
-    omega arith
-
-pub ahead-end : (bytes : List ℕ) (i : ℕ) → length bytes ≤ i → i ≡ ahead bytes i
-unfolding first
-ahead-end bytes i l = let f : first (eqb feed) (drop i bytes) ≡ 0 = ap (first (eqb feed)) (drop_of_length-le bytes l) in omega arith
-
--- ── all feeds ──
-pub feeds-le : (bytes : List ℕ) → feeds bytes ≤ length bytes
+-- ── how many feeds ──
+pub feeds_are : (bytes : List ℕ) → feeds bytes ≡ count_by (λ b. eqb b feed) bytes
 unfolding feeds
-feeds-le [] = omega arith
-feeds-le (b ∷ l) = let h = feeds-le l in split (eqb b feed) (λ e. rw e (omega arith)) (λ e. rw e (omega arith))
-
--- one byte more, which is a feed or not
-pub feeds-more : (bytes : List ℕ) (i : ℕ) → i < length bytes →
-    feeds (drop i bytes) ≡ cond (eqb (get_or bytes i 0) feed) 1 0 + feeds (drop (i + 1) bytes)
-unfolding feeds
-feeds-more bytes i l = ap feeds (drop-one bytes i l)
-
-pub feeds-none : (bytes : List ℕ) (i : ℕ) {n k : ℕ} → length bytes ≤ i → n + feeds (drop i bytes) ≡ k → n ≡ k
-unfolding feeds
-feeds-none bytes i l e = let z : feeds (drop i bytes) ≡ 0 = ap feeds (drop_of_length-le bytes l) in omega arith
-
-module _ (bytes : List ℕ) (i n : ℕ) {k : ℕ} (l : i < length bytes) (q : n + feeds (drop i bytes) ≡ k) where
-  pub feeds-one : get_or bytes i 0 ≡ feed → n + 1 + feeds (drop (i + 1) bytes) ≡ k
-  feeds-one e =
-      let f : feeds (drop i bytes) ≡ 1 + feeds (drop (i + 1) bytes) = feeds-more bytes i l ∙ rw (eq-eqb _ _ e) in omega arith
-
-  pub feeds-other : (get_or bytes i 0 ≡ feed → ⊥) → n + feeds (drop (i + 1) bytes) ≡ k
-  feeds-other e =
-      let f : feeds (drop i bytes) ≡ 0 + feeds (drop (i + 1) bytes) = feeds-more bytes i l ∙ rw (ne_eqb _ _ e) in omega arith
+feeds_are = is_sum_by feeds (λ b. cond (eqb b feed) 1 0) refl (λ _ _. refl)
 
 -- ── a line, byte by byte ──
 module _ (x : Line) (more : List ℕ) (i : ℕ) {y : Line} (e : added x (drop i more) ≡ y) where

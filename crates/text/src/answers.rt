@@ -14,7 +14,7 @@ fn glyph(d: u8) -> u8
     requires { d < 16 }
     ensures { result ≡ glyph d }
 {
-    if d < 10 { 48 + d } else { 87 + d }
+    if d < 10 { b'0' + d } else { b'a' + (d - 10) }
 }
 
 // The last n digits of a number, from a place on.
@@ -23,11 +23,9 @@ fn spell(out: &mut [u8], at: usize, n: usize, number: u64)
     ensures { out.new ≡ sets out.old at (digits n number) }
 {
     let mut rest = number;
-    let mut i = n;
-    while 0 < i {
-        i -= 1;
+    for i in (0..n).rev() {
         out[at + i] = glyph((rest % 16) as u8);
-        rest = rest / 16;
+        rest /= 16;
     }
 }
 
@@ -35,13 +33,10 @@ fn spell(out: &mut [u8], at: usize, n: usize, number: u64)
 pub fn put(out: &mut [u8], at: usize, seen: Seen)
     ensures { out.new ≡ placed out.old at (spelt seen) }
 {
-    if out.len() < at {
+    if out.len().saturating_sub(at) < BYTES {
         return;
     }
-    if out.len() - at < BYTES {
-        return;
-    }
-    spell(out, at, 2, seen.number as u64);
+    spell(out, at, 2, u64::from(seen.number));
     spell(out, at + 2, 16, seen.word);
     out[at + 18] = input::FEED;
 }

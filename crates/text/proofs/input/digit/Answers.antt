@@ -1,19 +1,26 @@
--- `text::input::digit` meets its contract.
-use native.Mathlib.Omega.{arith}
-use Rattle.text.proofs.TextLaws.{from_on, digit_low, digit-high, digit-none}
+-- A digit's range, or none.
+use Rattle.std.proofs.Common.{arith}
+use Rattle.std.proofs.lemmas.Bool.Decides.{nat_tests}
+use Rattle.numbers.specs.Tests.{◌and◌}
+use Rattle.text.specs.Text.{digit}
 use Rattle.text.proofs.input.digit.Goals as goal
 
-pub overflow_sub-result : goal.overflow_sub-result
-overflow_sub-result c = from_on _ 48 57 c.if-b.true
+pub returns-in-48-to-57 : goal.returns-in-48-to-57
+unfolding digit ◌and◌
+returns-in-48-to-57 c = grind (arith, nat_tests)
 
-pub returns-then-b : goal.returns-then-b
-returns-then-b c = digit_low _ c.if-b.true
+pub returns-in-97-to-102 : goal.returns-in-97-to-102
+unfolding digit ◌and◌
+returns-in-97-to-102 c = grind (arith, nat_tests)
 
-pub overflow_sub-result-then-b-2 : goal.overflow_sub-result-then-b-2
-overflow_sub-result-then-b-2 c = omega (arith, from_on c.args.b 97 102 c.if-b-2.true)
+pub returns-in_default : goal.returns-in_default
+unfolding digit ◌and◌
+returns-in_default c = grind (arith, nat_tests)
 
-pub returns-then-b-2 : goal.returns-then-b-2
-returns-then-b-2 c = digit-high _ c.if-b.false c.if-b-2.true
+pub returns-in_default-2 : goal.returns-in_default-2
+unfolding digit ◌and◌
+returns-in_default-2 c = grind (arith, nat_tests)
 
-pub returns : goal.returns
-returns c = digit-none _ c.if-b.false c.if-b-2.false
+pub returns-in_default-3 : goal.returns-in_default-3
+unfolding digit ◌and◌
+returns-in_default-3 c = grind (arith, nat_tests)
