@@ -2,18 +2,17 @@
 use mathlib.Core.Path.{◌≡◌, refl, sym, ◌∙◌, ap}
 use mathlib.Core.Bool.{Bool, true, false, cond}
 use mathlib.Core.List.{List, [], ◌∷◌, ◌++◌, append_assoc, append-nil}
-use Prim.Native.Nat.{ℕ, suc, ◌+◌, ◌-◌, ◌*◌, ◌≤◌, ◌<◌}
+use Prim.Native.Nat.{ℕ, suc, ◌+◌, ◌*◌, ◌≤◌, ◌<◌}
 use native.Mathlib.Numerals.{add-one}
 use native.Mathlib.Omega.{arith}
-use lib.Dec.{eqb, leb, ltb}
+use lib.Dec.{eqb, ltb}
 use lib.ListN.{length, get_or, take, drop, set, length-set, drop_of_length-le}
 use lib.Seq.{drop-cons, take-suc-set, take_all}
 use borrow.Author.Tests.{lt-ltb, le-ltb, ltb-true, ltb-false, eq-eqb, ne_eqb}
 use Rattle.std.specs.Prelude.{Option, Some, None}
-use Rattle.std.specs.List.{count_by, position_or_len}
-use Rattle.std.proofs.lemmas.List.Recursion.{is_sum_by, is_position_or_len}
+use Rattle.std.specs.List.{count_by}
+use Rattle.std.proofs.lemmas.List.Recursion.{is_sum_by}
 use Rattle.numbers.specs.Sizes.{frame_bytes}
-use Rattle.numbers.specs.Search.{first}
 use Rattle.numbers.specs.Tests.{◌and◌}
 use Rattle.numbers.proofs.Bools.{split, and_i, and-no-l, and-no-r}
 use Rattle.text.specs.Text.{digit, line_digits, all_digits, well_shaped, bytes_of, feed}

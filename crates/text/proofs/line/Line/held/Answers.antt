@@ -1,5 +1,4 @@
 use Rattle.std.proofs.Common.{◌≡◌, length, rules, ap, ◌∙◌, take, ℕ}
-use Rattle.text.specs.Line.{held}
 use Rattle.text.proofs.LineLaws.{held-part}
 use Rattle.text.proofs.line.Line.held.Goals as goal
 
