@@ -1,7 +1,6 @@
 // A log, a piece at a time: each line gets its answer line.
 ghost use Rattle.std.specs.Prelude.{◌≡◌, true, false, [], ◌+◌, ◌*◌, ◌≤◌, length};
 ghost use Rattle.numbers.specs.Rules.{least};
-ghost use Rattle.numbers.specs.Frames.{decode, frame_number};
 ghost use Rattle.tables.specs.State.{empty};
 ghost use Rattle.text.specs.Text.{cut};
 ghost use Rattle.text.specs.Answers.{answer_bytes};
@@ -16,7 +15,6 @@ use numbers::answers::Seen;
 use numbers::frames;
 use numbers::frames::Action;
 use tables::state::Tables;
-use text::input::Heard;
 use text::line::Line;
 use text::{answers, input};
 
@@ -36,56 +34,63 @@ pub struct Fed {
     pub replay: Replay,
 }
 
-// What a line gets, and what it leaves.
-#[derive(Drop)]
-struct Answer {
-    seen: Seen,
-    booted: bool,
-    tables: Tables,
-}
-
 // ── one line ──
-// Its action comes decoded and checked, as the loop below has it already.
-fn turn(booted: bool, tables: Tables, heard: Heard, check: u8, a: Action, mem: &mut [u64]) -> Answer
-    requires { (a ≡ decode heard.bytes) × (check ≡ frame_number a) }
-    ensures { turned result mem.new ≡ answered heard (record { booted = booted; tables = tables; memory = mem.old }) }
-{
-    if !heard.good {
-        return Answer {
-            seen: Seen::wordless(3),
-            booted,
-            tables,
+impl Replay {
+    // What a line gets, by what it says: nothing gets 3, the first frame boots, each later one is an action. Only an action that may change
+    // the tables has them moved.
+    fn turn(&mut self, heard: Option<[u8; Action::BYTES]>, mem: &mut [u64]) -> Seen
+        ensures { turned result self.new mem.new ≡ answered heard (log_of self.old mem.old) }
+    {
+        let Some(frame) = heard else {
+            return Seen::wordless(3);
         };
-    }
-    if !booted {
-        let hypervisor = frames::word(&heard.bytes, 0);
-        let region = frames::word(&heard.bytes, 8);
-        return Answer {
-            seen: Seen::wordless(0),
-            booted: true,
-            tables: Tables::boot(hypervisor, region),
+        if !self.booted {
+            self.booted = true;
+            self.tables = Tables::boot(frames::word(&frame, 0), frames::word(&frame, 8));
+            return Seen::wordless(0);
+        }
+        let a = Action::decode(&frame);
+        let check = a.number();
+        if referee::moves_nothing(check, a.kind) {
+            return referee::serve(
+                check,
+                a,
+                &self.tables.present,
+                &self.tables.running,
+                &self.tables.map,
+                &self.tables.tlb,
+                &self.tables.io_map,
+                &self.tables.io_tlb,
+                mem,
+            );
+        }
+        let referee = Referee {
+            tables: self.tables,
         };
-    }
-    let referee = Referee { tables };
-    let out = referee.settle(check, a, mem);
-    let seen = out.seen;
-    let tables = out.tables;
-    Answer {
-        seen,
-        booted,
-        tables,
+        let out = referee.settle(check, a, mem);
+        self.tables = out.tables;
+        out.seen
     }
 }
 
-// What an accepted piece comes to.
-fn accepted(written: usize, line: Line, booted: bool, tables: Tables) -> Fed
-    ensures { result ≡ record { number = 0; written = written; replay = record { line = line; booted = booted; tables = tables } } }
+// ── many lines ──
+// The lines that a piece ends; the bytes after the last feed are kept.
+fn each_line(from: Replay, bytes: &[u8], mem: &mut [u64], out: &mut [u8]) -> Fed
+    requires { feeds bytes.now * answer_bytes ≤ length out.old }
+    ensures { reached result mem.new out.new ≡ gone (held from.line) bytes.now (way from mem.old out.old 0) }
 {
-    let replay = Replay {
-        line,
-        booted,
-        tables,
-    };
+    let mut replay = from;
+    let mut line = from.line.tidy();
+    let mut written: usize = 0;
+    let mut rest = bytes;
+    while let Some(end) = input::line_end(rest) {
+        let seen = replay.turn(line.hear_with(&rest[..end]), mem);
+        answers::put(out, written, seen);
+        line = Line::empty();
+        written += answers::BYTES;
+        rest = &rest[end + 1..];
+    }
+    replay.line = line.add(rest);
     Fed {
         number: 0,
         written,
@@ -93,71 +98,25 @@ fn accepted(written: usize, line: Line, booted: bool, tables: Tables) -> Fed
     }
 }
 
-// ── many lines ──
-// The lines that a piece ends; the bytes after the last feed are kept. Only a line that may change the tables has them moved.
-fn each_line(from: Replay, bytes: &[u8], mem: &mut [u64], out: &mut [u8]) -> Fed
-    requires { feeds bytes.now * answer_bytes ≤ length out.old }
-    ensures { reached result mem.new out.new
-        ≡ gone (held from.line) bytes.now (way from.booted from.tables mem.old out.old 0) }
-{
-    let mut line = from.line.tidy();
-    let mut booted = from.booted;
-    let mut tables = from.tables;
-    let mut written: usize = 0;
-    let mut at: usize = 0;
-    while at < bytes.len() {
-        let end = input::line_end(bytes, at);
-        if bytes.len() <= end {
-            line = line.add(&bytes[at..end]);
-            break;
-        }
-        let heard = line.hear_with(&bytes[at..end]);
-        let a = Action::decode(&heard.bytes);
-        let check = a.number();
-        if booted & referee::moves_nothing(check, a.kind) {
-            let seen = referee::serve(
-                check,
-                a,
-                &tables.present,
-                &tables.running,
-                &tables.map,
-                &tables.tlb,
-                &tables.io_map,
-                &tables.io_tlb,
-                mem,
-            );
-            answers::put(out, written, seen);
-        } else {
-            let t = turn(booted, tables, heard, check, a, mem);
-            answers::put(out, written, t.seen);
-            booted = t.booted;
-            tables = t.tables;
-        }
-        line = Line::empty();
-        written += answers::BYTES;
-        at = end + 1;
-    }
-    accepted(written, line, booted, tables)
-}
-
 // The end of the log: a line that is not finished is a line.
 fn close(fed: Fed, mem: &mut [u64], out: &mut [u8]) -> Fed
     requires { (fed.replay.line.count ≡ 0 → ⊥) → fed.written + answer_bytes ≤ length out.old }
     ensures { reached result mem.new out.new ≡ closed (reached fed mem.old out.old) }
 {
-    let from = fed.replay;
-    let last = from.line;
-    let booted = from.booted;
-    let tables = from.tables;
-    let line = Line::empty();
-    if last.count == 0 {
-        return accepted(fed.written, line, booted, tables);
+    let mut replay = fed.replay;
+    let mut written = fed.written;
+    let last = replay.line;
+    if last.count != 0 {
+        let seen = replay.turn(last.hear(), mem);
+        answers::put(out, written, seen);
+        written += answers::BYTES;
     }
-    let heard = last.hear();
-    let a = Action::decode(&heard.bytes);
-    let t = turn(booted, tables, heard, a.number(), a, mem);
-    answers::put(out, fed.written, t.seen);
-    accepted(fed.written + answers::BYTES, line, t.booted, t.tables)
+    replay.line = Line::empty();
+    Fed {
+        number: 0,
+        written,
+        replay,
+    }
 }
 
 // ── before ──

@@ -30,12 +30,12 @@ abbrev line_end : List ℕ → ℕ
 line_end l = position_or_len is_feed l
 
 -- what an answer of where the first line ends says
-pub ends-at : (l : List ℕ) {n : ℕ} → Some n ≡ position (λ b. eqb b feed) l → (n ≡ line_end l) × (line_end l < length l)
+ends-at : (l : List ℕ) {n : ℕ} → Some n ≡ position (λ b. eqb b feed) l → (n ≡ line_end l) × (line_end l < length l)
 ends-at l {n} e = split (ltb (line_end l) (length l))
     (λ t. let q : Some n ≡ Some (line_end l) = rw t at e in (cc, ltb-true _ _ t))
     (λ t. let q : Some n ≡ None = rw t at e in cc)
 
-pub no-end : (l : List ℕ) → None ≡ position (λ b. eqb b feed) l → length l ≤ line_end l
+no-end : (l : List ℕ) → None ≡ position (λ b. eqb b feed) l → length l ≤ line_end l
 no-end l e = split (ltb (line_end l) (length l))
     (λ t. let q : None ≡ Some (line_end l) = rw t at e in cc)
     (λ t. ltb-false _ _ t)
@@ -68,6 +68,9 @@ at-feed [] k = absurd (omega arith)
 at-feed (x ∷ l) k = split (eqb x feed)
     (λ e. rw e (omega arith))
     (λ e. rw (e, one-more (line_end l)) (let i = at-feed l (let q = rw e at k in omega arith) in omega arith))
+
+pub end-inside : (l : List ℕ) {n : ℕ} → Some n ≡ position (λ b. eqb b feed) l → n < length l
+end-inside l e = let q = ends-at l e in omega arith
 
 pub cut_line : (h l : List ℕ) {n : ℕ} → Some n ≡ position (λ b. eqb b feed) l →
     cut h l ≡ record { ended = (h ++ take n l) ∷ (cut [] (drop (suc n) l)).ended; rest = (cut [] (drop (suc n) l)).rest }
