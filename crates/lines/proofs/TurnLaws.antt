@@ -14,6 +14,7 @@ use Rattle.numbers.specs.declared.frames.Action.{Action}
 use Rattle.numbers.proofs.Bools.{split}
 use Rattle.text.specs.Text.{well_shaped, bytes_of}
 use Rattle.text.specs.Line.{most}
+use Rattle.text.specs.declared.line.Line.{Line}
 use Rattle.text.specs.Walks.{heard}
 use Rattle.text.proofs.LineLaws.{heard-take}
 use Rattle.tables.specs.State.{boot}
@@ -22,12 +23,11 @@ use Rattle.rules.specs.Actions.{Outcome, does}
 use Rattle.rules.specs.Calls.{op_of, action_rules, taken}
 use Rattle.rules.proofs.Words.{length-touched}
 use Rattle.access.specs.Lent.{lent, Observed, observed}
-use Rattle.edits.specs.Edits.{after}
-use Rattle.edits.specs.declared.out.Out.{Out}
 use Rattle.calls.specs.Dispatch.{keeps_tables, settled, checked}
 use Rattle.calls.proofs.DispatchLaws.{settled_is, still-tables, checked-as}
 use Rattle.lines.specs.Log.{Log, Turn, acts, turn}
-use Rattle.lines.specs.Walks.{answered}
+use Rattle.lines.specs.Walks.{made, turned, answered}
+use Rattle.lines.specs.declared.replay.Replay.{Replay}
 
 -- memory keeps its length
 pub turn-long : (s : Log) (l : List ℕ) → length (turn s l).log.memory ≡ length s.memory
@@ -50,26 +50,21 @@ turn-says s l q e = e ∙ ap (λ (h : Option (List ℕ)). answered h s) q ∙ tu
 pub turn-short : (s : Log) (l : List ℕ) → turn s (take most l) ≡ turn s l
 turn-short s l = sym (turn-heard s (take most l)) ∙ turn-says s l (heard-take l) refl
 
--- what an action makes of a booted log
-abbrev pub turn_of : Outcome → Turn
-turn_of o = record { seen = o.seen; log = record { booted = true; tables = o.tables; memory = o.memory } }
-
 pub turn-bad : (s : Log) {x : Seen} → x ≡ wordless 3 → record { seen = x; log = s } ≡ answered None s
 unfolding answered
 turn-bad s e = rw e
 
 module _ (bytes : List ℕ) (s : Log) where
-  pub turn-boot : {x : Seen} {p q : ℕ} {m : Tables} → s.booted ≡ false →
-      p ≡ big 8 bytes 0 → q ≡ big 8 bytes 8 → x ≡ wordless 0 → m ≡ boot p q →
-      record { seen = x; log = record { booted = true; tables = m; memory = s.memory } } ≡ answered (Some bytes) s
+  pub turn-boot : {r : Replay} {x : Seen} {line : Line} → s.booted ≡ false →
+      r ≡ record { line = line; booted = true; tables = boot (big 8 bytes 0) (big 8 bytes 8) } → x ≡ wordless 0 →
+      turned x r s.memory ≡ answered (Some bytes) s
   unfolding answered
-  turn-boot b e f x k = rw (b, x, k, e, f)
+  turn-boot b e x = rw (b, e, x)
 
   module _ {a : Action} {n : ℕ} (b : s.booted ≡ true) (e : a ≡ decode bytes) (f : n ≡ frame_number a) where
-    pub turn-frame : {r : Out} {vs : List ℕ} → after r vs ≡ settled n s.tables a s.memory →
-        record { seen = r.seen; log = record { booted = s.booted; tables = r.tables; memory = vs } } ≡ answered (Some bytes) s
+    pub turn-moved : {t : Turn} → t ≡ made s.booted (settled n s.tables a s.memory) → t ≡ answered (Some bytes) s
     unfolding answered
-    turn-frame k = rw (b, ← e) (ap turn_of (k ∙ settled_is _ _ _ f))
+    turn-moved k = rw (b, ← e) (k ∙ rw b (ap (made true) (settled_is _ _ _ f)))
 
     -- one that leaves the tables as they are is served from lent parts of them
     pub turn-lent : {still : Bool} {x : Observed} → still ≡ (isnt (eqb n 0) or keeps_tables a.kind) → still ≡ true →
@@ -80,6 +75,6 @@ module _ (bytes : List ℕ) (s : Log) where
     turn-lent t moved k =
         let m = s.tables in
         let o = taken m a s.memory in
-        let beside = λ (y : Observed). turn_of (record { seen = y.seen; tables = m; memory = y.memory }) in
+        let beside = λ (y : Observed). made true (record { seen = y.seen; tables = m; memory = y.memory }) in
         rw (b, ← e) (ap beside (checked-as m a s.memory f (sym t ∙ moved) k)
-        ∙ ap (λ (y : Tables). turn_of (record { seen = o.seen; tables = y; memory = o.memory })) (sym (still-tables m a s.memory f (sym t ∙ moved))))
+        ∙ ap (λ (y : Tables). made true (record { seen = o.seen; tables = y; memory = o.memory })) (sym (still-tables m a s.memory f (sym t ∙ moved))))

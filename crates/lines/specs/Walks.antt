@@ -1,7 +1,8 @@
 -- A log as the code goes through it, and what stands on the way. The promises of public calls are in Pieces; these are of the parts.
-use Rattle.std.specs.Prelude.{ℕ, ◌+◌, cond, List, [], ◌∷◌, Option, Some, None}
+use Rattle.std.specs.Prelude.{ℕ, ◌+◌, Bool, cond, List, [], ◌∷◌, Option, Some, None}
 use Rattle.std.proofs.lemmas.List.Edits.{sets}
 use Rattle.numbers.specs.declared.answers.Seen.{Seen}
+use Rattle.rules.specs.Actions.{Outcome}
 use Rattle.text.specs.Text.{cut, unended}
 use Rattle.text.specs.Answers.{answer_bytes}
 use Rattle.text.specs.Line.{kept, held}
@@ -14,6 +15,13 @@ unfoldable pub answered : Option (List ℕ) → Log → Turn
 answered None s = bad s
 answered (Some bytes) s = cond s.booted (acts bytes s) (boots bytes s)
 
+abbrev pub turned : Seen → Replay → List ℕ → Turn
+turned x r ws = record { seen = x; log = log_of r ws }
+
+-- what an action makes of a log
+abbrev pub made : Bool → Outcome → Turn
+made booted o = record { seen = o.seen; log = record { booted = booted; tables = o.tables; memory = o.memory } }
+
 -- ── lines, one after the other ──
 pub record Way : Type 0 where
   pub log : Log
@@ -25,9 +33,6 @@ way r ws out written = record { log = log_of r ws; out = out; written = written 
 
 abbrev pub way_of : Passed → Way
 way_of p = record { log = p.log; out = p.out; written = p.written }
-
-abbrev pub turned : Seen → Replay → List ℕ → Turn
-turned x r ws = record { seen = x; log = log_of r ws }
 
 unfoldable pub stepped : List ℕ → Way → Way
 stepped l w = let t = turn w.log l in record {

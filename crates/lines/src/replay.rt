@@ -1,13 +1,15 @@
 // A log, a piece at a time: each line gets its answer line.
 ghost use Rattle.std.specs.Prelude.{◌≡◌, true, false, [], ◌+◌, ◌*◌, ◌≤◌, length};
 ghost use Rattle.numbers.specs.Rules.{least};
-ghost use Rattle.tables.specs.State.{empty};
+ghost use Rattle.numbers.specs.Frames.{big};
+ghost use Rattle.calls.specs.Dispatch.{settled};
+ghost use Rattle.tables.specs.State.{empty, boot};
 ghost use Rattle.text.specs.Text.{cut};
 ghost use Rattle.text.specs.Answers.{answer_bytes};
 ghost use Rattle.text.specs.Line.{kept, held};
 ghost use Rattle.text.specs.Walks.{feeds};
 ghost use Rattle.lines.specs.Pieces.{lines_in, piece_rules, piece, log_of, reached};
-ghost use Rattle.lines.specs.Walks.{answered, way, turned, gone, closed};
+ghost use Rattle.lines.specs.Walks.{made, turned, answered, way, gone, closed};
 
 use calls::referee;
 use calls::referee::Referee;
@@ -35,9 +37,33 @@ pub struct Fed {
 }
 
 // ── one line ──
+// A function pays at entry for each local that holds tables: so what moves them stands apart from what every line goes through.
 impl Replay {
-    // What a line gets, by what it says: nothing gets 3, the first frame boots, each later one is an action. Only an action that may change
-    // the tables has them moved.
+    // The first frame: the mask of the hypervisor's pages, then the region's.
+    fn boot(&mut self, frame: &[u8])
+        ensures { self.new ≡ record {
+            line = self.old.line;
+            booted = true;
+            tables = boot (big 8 frame.now 0) (big 8 frame.now 8);
+        } }
+    {
+        self.booted = true;
+        self.tables = Tables::boot(frames::word(frame, 0), frames::word(frame, 8));
+    }
+
+    // An action that may change the tables.
+    fn settle(&mut self, check: u8, a: Action, mem: &mut [u64]) -> Seen
+        ensures { turned result self.new mem.new ≡ made self.old.booted (settled check self.old.tables a mem.old) }
+    {
+        let referee = Referee {
+            tables: self.tables,
+        };
+        let out = referee.settle(check, a, mem);
+        self.tables = out.tables;
+        out.seen
+    }
+
+    // What a line gets, by what it says: nothing gets 3, the first frame boots, each later one is an action.
     fn turn(&mut self, heard: Option<[u8; Action::BYTES]>, mem: &mut [u64]) -> Seen
         ensures { turned result self.new mem.new ≡ answered heard (log_of self.old mem.old) }
     {
@@ -45,31 +71,25 @@ impl Replay {
             return Seen::wordless(3);
         };
         if !self.booted {
-            self.booted = true;
-            self.tables = Tables::boot(frames::word(&frame, 0), frames::word(&frame, 8));
+            self.boot(&frame);
             return Seen::wordless(0);
         }
         let a = Action::decode(&frame);
         let check = a.number();
-        if referee::moves_nothing(check, a.kind) {
-            return referee::serve(
-                check,
-                a,
-                &self.tables.present,
-                &self.tables.running,
-                &self.tables.map,
-                &self.tables.tlb,
-                &self.tables.io_map,
-                &self.tables.io_tlb,
-                mem,
-            );
+        if !referee::moves_nothing(check, a.kind) {
+            return self.settle(check, a, mem);
         }
-        let referee = Referee {
-            tables: self.tables,
-        };
-        let out = referee.settle(check, a, mem);
-        self.tables = out.tables;
-        out.seen
+        referee::serve(
+            check,
+            a,
+            &self.tables.present,
+            &self.tables.running,
+            &self.tables.map,
+            &self.tables.tlb,
+            &self.tables.io_map,
+            &self.tables.io_tlb,
+            mem,
+        )
     }
 }
 
