@@ -14,11 +14,13 @@ pub const DIGITS: usize = 2 * Action::BYTES;
 fn digit(b: u8) -> Option<u8>
     ensures { result ≡ cond (ltb (digit b) 16) (Some (digit b)) None }
 {
-    match b {
-        b'0'..=b'9' => Some(b - b'0'),
-        b'a'..=b'f' => Some(b - b'a' + 10),
-        _ => None,
+    if (b'0' <= b) & (b <= b'9') {
+        return Some(b - b'0');
     }
+    if (b'a' <= b) & (b <= b'f') {
+        return Some(b - b'a' + 10);
+    }
+    None
 }
 
 // What a line says, without its feed: the bytes of a frame, if it has a frame's digits and nothing else.
@@ -29,12 +31,15 @@ pub fn hear(line: &[u8]) -> Option<[u8; Action::BYTES]>
         return None;
     }
     let mut bytes = [0u8; Action::BYTES];
+    let mut good = true;
+    // to the end, also past a byte that is no digit: a loop that leaves early takes a branch for each byte
     for i in 0..Action::BYTES {
-        let high = digit(line[2 * i])?;
-        let low = digit(line[2 * i + 1])?;
-        bytes[i] = high * 16 + low;
+        let high = digit(line[2 * i]);
+        let low = digit(line[2 * i + 1]);
+        good &= high.is_some() & low.is_some();
+        bytes[i] = high.unwrap_or(0) * 16 + low.unwrap_or(0);
     }
-    Some(bytes)
+    good.then_some(bytes)
 }
 
 // Where the first line ends: the place of its feed, if it has one.
@@ -48,5 +53,11 @@ pub fn line_end(bytes: &[u8]) -> Option<usize>
 pub fn feeds(bytes: &[u8]) -> usize
     ensures { result ≡ feeds bytes.now }
 {
-    bytes.iter().filter(|b| **b == FEED).count()
+    let mut n = 0;
+    for b in bytes {
+        if *b == FEED {
+            n += 1;
+        }
+    }
+    n
 }

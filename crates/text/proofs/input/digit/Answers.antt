@@ -5,22 +5,14 @@ use Rattle.numbers.specs.Tests.{◌and◌}
 use Rattle.text.specs.Text.{digit}
 use Rattle.text.proofs.input.digit.Goals as goal
 
-pub returns-in-48-to-57 : goal.returns-in-48-to-57
+pub returns-then-b : goal.returns-then-b
 unfolding digit ◌and◌
-returns-in-48-to-57 c = grind (arith, nat_tests)
+returns-then-b c = grind (arith, nat_tests)
 
-pub returns-in-97-to-102 : goal.returns-in-97-to-102
+pub returns-then-b-2 : goal.returns-then-b-2
 unfolding digit ◌and◌
-returns-in-97-to-102 c = grind (arith, nat_tests)
+returns-then-b-2 c = grind (arith, nat_tests)
 
-pub returns-in_default : goal.returns-in_default
+pub returns : goal.returns
 unfolding digit ◌and◌
-returns-in_default c = grind (arith, nat_tests)
-
-pub returns-in_default-2 : goal.returns-in_default-2
-unfolding digit ◌and◌
-returns-in_default-2 c = grind (arith, nat_tests)
-
-pub returns-in_default-3 : goal.returns-in_default-3
-unfolding digit ◌and◌
-returns-in_default-3 c = grind (arith, nat_tests)
+returns c = grind (arith, nat_tests)

@@ -1,8 +1,8 @@
--- Two digits a byte, until one is none.
-use Rattle.std.proofs.Common.{refl, ◌∙◌}
+-- Two digits a byte; what is no digit spoils the line.
+use Rattle.std.proofs.Common.{arith, refl, ◌∙◌}
 use Rattle.numbers.specs.Sizes.{frame_bytes}
 use Rattle.text.specs.Text.{line_digits}
-use Rattle.text.proofs.TextLaws.{spelt-none, spelt-more, high-none, low-none, all-spelt, too_long}
+use Rattle.text.proofs.TextLaws.{small, spelt-none, spelt-more, all-spelt, too_long}
 use Rattle.text.proofs.input.hear.Goals as goal
 
 pub returns-then-line-ne-DIGITS : goal.returns-then-line-ne-DIGITS
@@ -13,21 +13,19 @@ pub loop-i-init : goal.loop-i-init
 unfolding frame_bytes
 loop-i-init c = spelt-none _ _ refl
 
-pub returns-in_err-high : goal.returns-in_err-high
-unfolding line_digits frame_bytes
-returns-in_err-high c = c.from_residual.ensures
-    ∙ high-none _ _ _ c.if-line-ne-DIGITS.false c.loop-i.invariant c.loop-i-test.true c.in_err-high.ensures
+pub overflow_mul-bytes : goal.overflow_mul-bytes
+overflow_mul-bytes c = omega (arith, small _ c.digit-high.ensures c.unwrap_or.ensures)
 
-pub returns-in_err-low : goal.returns-in_err-low
-unfolding line_digits frame_bytes
-returns-in_err-low c = c.from_residual-in_err-low.ensures
-    ∙ low-none _ _ _ c.if-line-ne-DIGITS.false c.loop-i.invariant c.loop-i-test.true c.in_err-low.ensures
+pub overflow_add-bytes : goal.overflow_add-bytes
+overflow_add-bytes c =
+    omega (arith, small _ c.digit-high.ensures c.unwrap_or.ensures, small _ c.digit-low.ensures c.unwrap_or-in-loop-i.ensures)
 
 pub loop-i-preserved : goal.loop-i-preserved
 unfolding line_digits frame_bytes
 loop-i-preserved c =
-    spelt-more _ _ _ c.if-line-ne-DIGITS.false c.loop-i.invariant c.loop-i-test.true c.in_ok-high.ensures c.in_ok-low.ensures
+    spelt-more _ _ _ _ c.if-line-ne-DIGITS.false c.loop-i.invariant c.loop-i-test.true c.digit-high.ensures c.digit-low.ensures
+    c.is_some.ensures c.is_some-in-loop-i.ensures c.unwrap_or.ensures c.unwrap_or-in-loop-i.ensures
 
 pub returns : goal.returns
 unfolding line_digits frame_bytes
-returns c = all-spelt _ _ _ c.if-line-ne-DIGITS.false c.loop-i-test.false c.loop-i.invariant
+returns c = c.then_some.ensures ∙ all-spelt _ _ _ _ c.if-line-ne-DIGITS.false c.loop-i-test.false c.loop-i.invariant
