@@ -14,13 +14,11 @@ pub const DIGITS: usize = 2 * Action::BYTES;
 fn digit(b: u8) -> Option<u8>
     ensures { result ≡ cond (ltb (digit b) 16) (Some (digit b)) None }
 {
-    if (b'0' <= b) & (b <= b'9') {
-        return Some(b - b'0');
+    match b {
+        b'0'..=b'9' => Some(b - b'0'),
+        b'a'..=b'f' => Some(b - b'a' + 10),
+        _ => None,
     }
-    if (b'a' <= b) & (b <= b'f') {
-        return Some(b - b'a' + 10);
-    }
-    None
 }
 
 // What a line says, without its feed: the bytes of a frame, if it has a frame's digits and nothing else.
