@@ -11,6 +11,7 @@ pub const FEED: u8 = b'\n';
 pub const DIGITS: usize = 2 * Action::BYTES;
 
 // The value of a digit.
+#[tactic(auto, using(std::proofs::lemmas::Bool::Decides::nat_tests, crate::proofs::TextLaws::digit_by_range))]
 fn digit(b: u8) -> Option<u8>
     ensures { result ≡ cond (ltb (digit b) 16) (Some (digit b)) None }
 {
