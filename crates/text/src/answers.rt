@@ -10,6 +10,7 @@ use numbers::answers::Seen;
 // How many bytes an answer line has: 2 digits of number, 16 of word, a feed.
 pub const BYTES: usize = 19;
 
+#[tactic(auto, using(std::proofs::lemmas::Bool::Decides::nat_tests), unfolding(crate::specs::Text::glyph))]
 fn glyph(d: u8) -> u8
     requires { d < 16 }
     ensures { result ≡ glyph d }

@@ -49,6 +49,7 @@ pub fn line_end(bytes: &[u8]) -> Option<usize>
 }
 
 // How many lines are ended.
+#[tactic(auto, using(std::proofs::lemmas::Grind::common_steps, crate::proofs::TextLaws::feeds_are), unfolding(crate::specs::Text::feed))]
 pub fn feeds(bytes: &[u8]) -> usize
     ensures { result ≡ feeds bytes.now }
 {

@@ -35,6 +35,7 @@ impl Line {
         &self.text[..self.count.min(Line::MOST)]
     }
 
+    #[tactic(auto, using(std::proofs::lemmas::Bool::Decides::nat_tests), unfolding(crate::specs::Walks::pushed, crate::specs::Line::most, crate::specs::Text::line_digits, numbers::specs::Sizes::frame_bytes))]
     fn push(mut self, b: u8) -> Line
         ensures { result ≡ pushed self b }
     {
