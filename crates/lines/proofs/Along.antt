@@ -1,16 +1,15 @@
 -- The loop over the lines of a piece: what it knows on its way.
 use mathlib.Core.Path.{◌≡◌, refl, sym, ap, ◌∙◌}
-use mathlib.Core.Bool.{Bool}
 use mathlib.Core.List.{List, [], ◌++◌}
-use Prim.Native.Nat.{ℕ, suc, ◌+◌, ◌-◌, ◌*◌, ◌≤◌, ◌<◌, ◌^◌}
+use Prim.Native.Nat.{ℕ, suc, ◌+◌, ◌-◌, ◌*◌, ◌≤◌, ◌<◌}
 use native.Mathlib.Numerals.{add-one}
 use native.Mathlib.Omega.{arith}
 use lib.Dec.{eqb}
-use lib.ListN.{length, take, drop, length-take, length-drop, drop_of_length-le}
-use lib.Seq.{length-sets, drop-drop, take_all}
+use lib.ListN.{length, take, drop, length-take, length-drop}
+use lib.Seq.{length-sets, take_all}
 use Rattle.std.specs.Prelude.{Some, None}
 use Rattle.std.specs.List.{position}
-use Rattle.text.specs.Text.{feed, Cut, cut, unended}
+use Rattle.text.specs.Text.{feed, Cut, unended}
 use Rattle.text.specs.Answers.{spelt, answer_bytes, placed}
 use Rattle.text.specs.Line.{kept, held}
 use Rattle.text.specs.Walks.{added, feeds}

@@ -19,13 +19,13 @@ use Rattle.text.specs.Walks.{heard}
 use Rattle.text.proofs.LineLaws.{heard-take}
 use Rattle.tables.specs.State.{boot}
 use Rattle.tables.specs.declared.state.Tables.{Tables}
-use Rattle.rules.specs.Actions.{Outcome, does}
+use Rattle.rules.specs.Actions.{does}
 use Rattle.rules.specs.Calls.{op_of, action_rules, taken}
 use Rattle.rules.proofs.Words.{length-touched}
-use Rattle.access.specs.Lent.{lent, Observed, observed}
+use Rattle.access.specs.Lent.{lent, Observed}
 use Rattle.calls.specs.Dispatch.{keeps_tables, settled, checked}
 use Rattle.calls.proofs.DispatchLaws.{settled_is, still-tables, checked-as}
-use Rattle.lines.specs.Log.{Log, Turn, acts, turn}
+use Rattle.lines.specs.Log.{Log, Turn, turn}
 use Rattle.lines.specs.Walks.{made, turned, answered}
 use Rattle.lines.specs.declared.replay.Replay.{Replay}
 

@@ -42,9 +42,9 @@ impl Replay {
     // The first frame: the mask of the hypervisor's pages, then the region's.
     fn boot(&mut self, frame: &[u8])
         ensures { self.new ≡ record {
-            line = self.old.line;
-            booted = true;
-            tables = boot (big 8 frame.now 0) (big 8 frame.now 8);
+          line = self.old.line;
+          booted = true;
+          tables = boot (big 8 frame.now 0) (big 8 frame.now 8);
         } }
     {
         self.booted = true;

@@ -1,5 +1,5 @@
 -- `lines::replay::close` meets its contract.
-use Rattle.std.proofs.Common.{◌≡◌, length, arith, rules}
+use Rattle.std.proofs.Common.{◌≡◌, length, rules}
 use Rattle.text.specs.Answers.{answer_bytes}
 use Rattle.lines.specs.Pieces.{reached}
 use Rattle.lines.proofs.TurnLaws.{turn-says}

@@ -1,7 +1,6 @@
 -- `lines::replay::each_line` meets its contract.
 use Rattle.std.proofs.Common.{◌≡◌, length, refl, arith, rules, ap, ◌∙◌}
 use Rattle.text.specs.Answers.{answer_bytes}
-use Rattle.text.specs.Line.{held}
 use Rattle.text.proofs.Cuts.{end-inside}
 use Rattle.text.proofs.LineLaws.{tidied, same_text}
 use Rattle.lines.specs.Walks.{gone, way}
