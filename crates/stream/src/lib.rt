@@ -13,12 +13,6 @@ const BYTES: usize = 65536;
 
 const ROOM: usize = BYTES * answers::BYTES;
 
-fn room() -> [u8; ROOM]
-    ensures { 1245184 ≡ length result }
-{
-    [0; ROOM]
-}
-
 // There is nowhere to say that this could not be said.
 fn say(rt: &impl Eprint, text: &str) {
     let _ = rt.eprintln(text);
@@ -66,7 +60,7 @@ fn turn<R: Read, W: Write>(
 pub fn replay<R: Read, W: Write>(rt: &impl Eprint, from: &mut R, to: &mut W) {
     let mut mem = [0u64; Referee::WORDS];
     let mut bytes = [0u8; BYTES];
-    let mut out = room();
+    let mut out = [0u8; ROOM];
     let mut log = Replay::start();
     for _ in 0..u64::MAX {
         let Some(next) = turn(rt, from, to, log, &mut bytes, &mut mem, &mut out) else {
