@@ -36,9 +36,9 @@ pub struct Fed {
     pub replay: Replay,
 }
 
-// ── one line ──
-// A function pays at entry for each local that holds tables: so what moves them stands apart from what every line goes through.
 impl Replay {
+    // ── one line ──
+    // A function pays at entry for each local that holds tables: so what moves them stands apart from what every line goes through.
     // The first frame: the mask of the hypervisor's pages, then the region's.
     fn boot(&mut self, frame: &[u8])
         ensures { self.new ≡ record {
@@ -91,73 +91,47 @@ impl Replay {
             mem,
         )
     }
-}
 
-// ── many lines ──
-// The lines that a piece ends; the bytes after the last feed are kept.
-fn each_line(from: Replay, bytes: &[u8], mem: &mut [u64], out: &mut [u8]) -> Fed
-    requires { feeds bytes.now * answer_bytes ≤ length out.old }
-    ensures { reached result mem.new out.new ≡ gone (held from.line) bytes.now (way from mem.old out.old 0) }
-{
-    let mut replay = from;
-    let mut line = from.line.tidy();
-    let mut written: usize = 0;
-    let mut rest = bytes;
-    while let Some(end) = input::line_end(rest) {
-        let seen = replay.turn(line.hear_with(&rest[..end]), mem);
-        answers::put(out, written, seen);
-        line = Line::empty();
-        written += answers::BYTES;
-        rest = &rest[end + 1..];
+    // ── many lines ──
+    // The lines that a piece ends; the bytes after the last feed are kept.
+    fn each_line(mut self, bytes: &[u8], mem: &mut [u64], out: &mut [u8]) -> Fed
+        requires { feeds bytes.now * answer_bytes ≤ length out.old }
+        ensures { reached result mem.new out.new ≡ gone (held self.line) bytes.now (way self mem.old out.old 0) }
+    {
+        let mut line = self.line.tidy();
+        let mut written: usize = 0;
+        let mut rest = bytes;
+        while let Some(end) = input::line_end(rest) {
+            let seen = self.turn(line.hear_with(&rest[..end]), mem);
+            answers::put(out, written, seen);
+            line = Line::empty();
+            written += answers::BYTES;
+            rest = &rest[end + 1..];
+        }
+        self.line = line.add(rest);
+        Fed {
+            number: 0,
+            written,
+            replay: self,
+        }
     }
-    replay.line = line.add(rest);
-    Fed {
-        number: 0,
-        written,
-        replay,
-    }
-}
 
-// The end of the log: a line that is not finished is a line.
-fn close(fed: Fed, mem: &mut [u64], out: &mut [u8]) -> Fed
-    requires { (fed.replay.line.count ≡ 0 → ⊥) → fed.written + answer_bytes ≤ length out.old }
-    ensures { reached result mem.new out.new ≡ closed (reached fed mem.old out.old) }
-{
-    let mut replay = fed.replay;
-    let mut written = fed.written;
-    let last = replay.line;
-    if last.count != 0 {
-        let seen = replay.turn(last.hear(), mem);
-        answers::put(out, written, seen);
-        written += answers::BYTES;
+    // ── before ──
+    // 1 for lengths, 2 for tables that are not well formed. A line left open counts where the log ends.
+    fn own_number(self, last: bool, bytes: &[u8], memory: usize, room: usize) -> u8
+        ensures { result ≡ least (piece_rules (length (lines_in last (cut (held self.line) bytes.now))) self.tables memory room) }
+    {
+        let lines = input::feeds(bytes) + usize::from(last & self.line.is_open(bytes));
+        if (memory != Referee::WORDS) | (room / answers::BYTES < lines) {
+            return 1;
+        }
+        if !order::wf(self.tables) {
+            return 2;
+        }
+        0
     }
-    replay.line = Line::empty();
-    Fed {
-        number: 0,
-        written,
-        replay,
-    }
-}
 
-// ── before ──
-// 1 for lengths, 2 for tables that are not well formed. A line left open counts where the log ends.
-fn own_number(from: Replay, last: bool, bytes: &[u8], memory: usize, room: usize) -> u8
-    ensures { result ≡ least (piece_rules (length (lines_in last (cut (held from.line) bytes.now))) from.tables memory room) }
-{
-    let ended = input::feeds(bytes);
-    let more = last & from.line.is_open(bytes);
-    let lines = room / answers::BYTES;
-    if (memory != Referee::WORDS) | ((lines < ended) | (more & (lines <= ended))) {
-        return 1;
-    }
-    let tables = from.tables;
-    if !order::wf(tables) {
-        return 2;
-    }
-    0
-}
-
-impl Replay {
+    // ── calls ──
     // Before the first byte of a log.
     pub fn start() -> Replay
         ensures { result ≡ record { line = kept []; booted = false; tables = empty } }
@@ -169,31 +143,16 @@ impl Replay {
         }
     }
 
-    fn go(self, last: bool, bytes: &[u8], mem: &mut [u64], out: &mut [u8]) -> Fed
-        ensures { reached result mem.new out.new
-            ≡ piece last self.line (log_of self mem.old) bytes.now out.old }
-    {
-        let number = own_number(self, last, bytes, mem.len(), out.len());
-        if number != 0 {
-            return Fed {
-                number,
-                written: 0,
-                replay: self,
-            };
-        }
-        let fed = each_line(self, bytes, mem, out);
-        if last {
-            return close(fed, mem, out);
-        }
-        fed
-    }
-
     // A piece of a log, of any length.
     pub fn feed(mut self, bytes: &[u8], mem: &mut [u64], out: &mut [u8]) -> Fed
         ensures { reached result mem.new out.new
             ≡ piece false self.line (log_of self mem.old) bytes.now out.old }
     {
-        self.go(false, bytes, mem, out)
+        let number = self.own_number(false, bytes, mem.len(), out.len());
+        if number != 0 {
+            return Fed::refused(number, self);
+        }
+        self.each_line(bytes, mem, out)
     }
 
     // The last piece, or the whole log: a last line may lack its feed.
@@ -201,6 +160,38 @@ impl Replay {
         ensures { reached result mem.new out.new
             ≡ piece true self.line (log_of self mem.old) bytes.now out.old }
     {
-        self.go(true, bytes, mem, out)
+        let number = self.own_number(true, bytes, mem.len(), out.len());
+        if number != 0 {
+            return Fed::refused(number, self);
+        }
+        self.each_line(bytes, mem, out).close(mem, out)
+    }
+}
+
+impl Fed {
+    fn refused(number: u8, replay: Replay) -> Fed
+        ensures { result ≡ record { number = number; written = 0; replay = replay } }
+    {
+        Fed {
+            number,
+            written: 0,
+            replay,
+        }
+    }
+
+    // The end of the log: a line that is not finished is a line.
+    fn close(mut self, mem: &mut [u64], out: &mut [u8]) -> Fed
+        requires accepted { self.number ≡ 0 }
+        requires room { (self.replay.line.count ≡ 0 → ⊥) → self.written + answer_bytes ≤ length out.old }
+        ensures { reached result mem.new out.new ≡ closed (reached self mem.old out.old) }
+    {
+        let last = self.replay.line;
+        if last.count != 0 {
+            let seen = self.replay.turn(last.hear(), mem);
+            answers::put(out, self.written, seen);
+            self.written += answers::BYTES;
+        }
+        self.replay.line = Line::empty();
+        self
     }
 }

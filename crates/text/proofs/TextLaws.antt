@@ -14,6 +14,7 @@ use Rattle.std.specs.Bool.{then_some}
 use Rattle.std.specs.Option.{is_some, unwrap_or}
 use Rattle.std.specs.List.{count_by}
 use Rattle.std.proofs.lemmas.List.Recursion.{is_sum_by}
+use Rattle.std.proofs.lemmas.List.Sums.{count_by-le-length}
 use Rattle.numbers.specs.Sizes.{frame_bytes}
 use Rattle.numbers.specs.Tests.{◌and◌}
 use Rattle.numbers.proofs.Bools.{split, and_l, and_r, and_i, and-no-l, and-no-r}
@@ -124,6 +125,9 @@ all-spelt line bytes good i n l q =
 pub feeds_are : (bytes : List ℕ) → feeds bytes ≡ count_by (λ b. eqb b feed) bytes
 unfolding feeds
 feeds_are = is_sum_by feeds (λ b. cond (eqb b feed) 1 0) refl (λ _ _. refl)
+
+pub feeds-le : (bytes : List ℕ) → feeds bytes ≤ length bytes
+feeds-le bytes = rw feeds_are (count_by-le-length (λ b. eqb b feed) bytes)
 
 -- ── a line, byte by byte ──
 module _ (x : Line) (more : List ℕ) (i : ℕ) {y : Line} (e : added x (drop i more) ≡ y) where
