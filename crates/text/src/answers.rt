@@ -18,14 +18,13 @@ fn glyph(d: u8) -> u8
     if d < 10 { b'0' + d } else { b'a' + (d - 10) }
 }
 
-// The last n digits of a number, from a place on.
-fn spell(out: &mut [u8], at: usize, n: usize, number: u64)
-    requires { at + n ≤ length out.old }
-    ensures { out.new ≡ sets out.old at (digits n number) }
+// The last digits of a number, as many as there are places.
+fn spell(out: &mut [u8], number: u64)
+    ensures { out.new ≡ digits (length out.old) number }
 {
     let mut rest = number;
-    for i in (0..n).rev() {
-        out[at + i] = glyph((rest % 16) as u8);
+    for i in (0..out.len()).rev() {
+        out[i] = glyph((rest % 16) as u8);
         rest /= 16;
     }
 }
@@ -37,7 +36,8 @@ pub fn put(out: &mut [u8], at: usize, seen: Seen)
     if out.len().saturating_sub(at) < BYTES {
         return;
     }
-    spell(out, at, 2, u64::from(seen.number));
-    spell(out, at + 2, 16, seen.word);
-    out[at + 18] = input::FEED;
+    let line = &mut out[at..at + BYTES];
+    spell(&mut line[..2], u64::from(seen.number));
+    spell(&mut line[2..18], seen.word);
+    line[18] = input::FEED;
 }

@@ -11,4 +11,4 @@ returns-then-saturating_sub-lt-BYTES c = not-placed _ _ _ (omega arith)
 
 pub returns : goal.returns
 unfolding feed answer_bytes
-returns c = put_whole _ _ _ (omega arith) (rw c.from.ensures at c.spell.ensures) c.spell-2.ensures
+returns c = put_whole _ _ c.args.seen (omega arith) (rw c.from.ensures at c.spell.ensures) c.spell-2.ensures
