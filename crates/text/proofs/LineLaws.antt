@@ -12,6 +12,7 @@ use lib.Seq.{take-nil, take_all, take-append-le, take-suc-set, append_snoc}
 use borrow.Author.Tests.{ltb-true, ltb-false, leb-true, leb-false, eqb-true, eq-eqb, le-ltb}
 use Rattle.std.specs.Prelude.{Some}
 use Rattle.std.specs.List.{slice_get}
+use Rattle.std.proofs.lemmas.List.{take_min}
 use Rattle.std.proofs.lemmas.Option.{slice_get_within, get_or_from_slice_get}
 use Rattle.numbers.specs.Sizes.{frame_bytes}
 use Rattle.numbers.specs.Tests.{isnt}
@@ -135,12 +136,7 @@ take-grown l k a e = sym (take-front most l a) ∙ ap (λ (r : List ℕ). take m
 -- ── the kept bytes as a part of the text ──
 pub held-part : (x : Line) → length x.text ≡ 33 → take (min x.count 33) x.text ≡ held x
 unfolding held
-held-part x n = split (leb x.count 33)
-    (λ t. let k = leb-true x.count 33 t in let m : min x.count 33 ≡ x.count = omega arith in rw m)
-    (λ t.
-    let k = leb-false x.count 33 t in
-    let m : min x.count 33 ≡ 33 = omega arith in
-    rw m (take_all 33 x.text (omega arith) ∙ sym (take_all x.count x.text (omega arith))))
+held-part x n = ap (λ (m : ℕ). take (min x.count m) x.text) (sym n) ∙ take_min x.count x.text
 
 pub held_none : (x : Line) (l : List ℕ) → x.count ≡ 0 → l ≡ held x ++ l
 unfolding held
