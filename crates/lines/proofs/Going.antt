@@ -79,6 +79,9 @@ module _ (last : Bool) (line : Line) (s : Log) (bytes out : List ℕ) {own : ℕ
       lines-passed : y ≡ passed (cut (held line) bytes).ended (cut (held line) bytes).rest s out
       lines-passed = g ∙ passed-feed line s bytes out ended-room
 
+      pub gone-accepted : y.number ≡ 0
+      gone-accepted = ap (λ (p : Passed). p.number) lines-passed
+
       pub fed-is : last ≡ false → y ≡ piece last line s bytes out
       fed-is f = lines-passed ∙ accepted-is false f
 

@@ -1,18 +1,26 @@
 -- A log as the code goes through it, and what stands on the way. The promises of public calls are in Pieces; these are of the parts.
-use Rattle.std.specs.Prelude.{ℕ, ◌+◌, Bool, cond, List, [], ◌∷◌}
+use Rattle.std.specs.Prelude.{ℕ, ◌+◌, Bool, cond, List, [], ◌∷◌, Option, Some, None}
 use Rattle.std.proofs.lemmas.List.Edits.{sets}
-use Rattle.tables.specs.declared.state.Tables.{Tables}
+use Rattle.numbers.specs.declared.answers.Seen.{Seen}
+use Rattle.rules.specs.Actions.{Outcome}
 use Rattle.text.specs.Text.{cut, unended}
 use Rattle.text.specs.Answers.{answer_bytes}
 use Rattle.text.specs.Line.{kept, held}
-use Rattle.text.specs.declared.input.Heard.{Heard}
 use Rattle.lines.specs.Log.{Log, Turn, boots, acts, bad, turn, answer_line}
-use Rattle.lines.specs.Pieces.{Passed}
-use Rattle.lines.specs.declared.replay.Answer.{Answer}
+use Rattle.lines.specs.Pieces.{Passed, log_of}
+use Rattle.lines.specs.declared.replay.Replay.{Replay}
 
 -- ── one line, by what it says ──
-unfoldable pub answered : Heard → Log → Turn
-answered h s = cond h.good (cond s.booted (acts h.bytes s) (boots h.bytes s)) (bad s)
+unfoldable pub answered : Option (List ℕ) → Log → Turn
+answered None s = bad s
+answered (Some bytes) s = cond s.booted (acts bytes s) (boots bytes s)
+
+abbrev pub turned : Seen → Replay → List ℕ → Turn
+turned x r ws = record { seen = x; log = log_of r ws }
+
+-- what an action makes of a log
+abbrev pub made : Bool → Outcome → Turn
+made booted o = record { seen = o.seen; log = record { booted = booted; tables = o.tables; memory = o.memory } }
 
 -- ── lines, one after the other ──
 pub record Way : Type 0 where
@@ -20,14 +28,11 @@ pub record Way : Type 0 where
   pub out : List ℕ
   pub written : ℕ
 
-abbrev pub way : Bool → Tables → List ℕ → List ℕ → ℕ → Way
-way booted m ws out written = record { log = record { booted = booted; tables = m; memory = ws }; out = out; written = written }
+abbrev pub way : Replay → List ℕ → List ℕ → ℕ → Way
+way r ws out written = record { log = log_of r ws; out = out; written = written }
 
 abbrev pub way_of : Passed → Way
 way_of p = record { log = p.log; out = p.out; written = p.written }
-
-abbrev pub turned : Answer → List ℕ → Turn
-turned t ws = record { seen = t.seen; log = record { booted = t.booted; tables = t.tables; memory = ws } }
 
 unfoldable pub stepped : List ℕ → Way → Way
 stepped l w = let t = turn w.log l in record {

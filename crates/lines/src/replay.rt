@@ -1,14 +1,15 @@
 // A log, a piece at a time: each line gets its answer line.
 ghost use Rattle.std.specs.Prelude.{◌≡◌, true, false, [], ◌+◌, ◌*◌, ◌≤◌, length};
 ghost use Rattle.numbers.specs.Rules.{least};
-ghost use Rattle.numbers.specs.Frames.{decode, frame_number};
-ghost use Rattle.tables.specs.State.{empty};
+ghost use Rattle.numbers.specs.Frames.{big};
+ghost use Rattle.calls.specs.Dispatch.{settled};
+ghost use Rattle.tables.specs.State.{empty, boot};
 ghost use Rattle.text.specs.Text.{cut};
 ghost use Rattle.text.specs.Answers.{answer_bytes};
 ghost use Rattle.text.specs.Line.{kept, held};
 ghost use Rattle.text.specs.Walks.{feeds};
 ghost use Rattle.lines.specs.Pieces.{lines_in, piece_rules, piece, log_of, reached};
-ghost use Rattle.lines.specs.Walks.{answered, way, turned, gone, closed};
+ghost use Rattle.lines.specs.Walks.{made, turned, answered, way, gone, closed};
 
 use calls::referee;
 use calls::referee::Referee;
@@ -16,7 +17,6 @@ use numbers::answers::Seen;
 use numbers::frames;
 use numbers::frames::Action;
 use tables::state::Tables;
-use text::input::Heard;
 use text::line::Line;
 use text::{answers, input};
 
@@ -36,149 +36,102 @@ pub struct Fed {
     pub replay: Replay,
 }
 
-// What a line gets, and what it leaves.
-#[derive(Drop)]
-struct Answer {
-    seen: Seen,
-    booted: bool,
-    tables: Tables,
-}
-
-// ── one line ──
-// Its action comes decoded and checked, as the loop below has it already.
-fn turn(booted: bool, tables: Tables, heard: Heard, check: u8, a: Action, mem: &mut [u64]) -> Answer
-    requires { (a ≡ decode heard.bytes) × (check ≡ frame_number a) }
-    ensures { turned result mem.new ≡ answered heard (record { booted = booted; tables = tables; memory = mem.old }) }
-{
-    if !heard.good {
-        return Answer {
-            seen: Seen::wordless(3),
-            booted,
-            tables,
-        };
-    }
-    if !booted {
-        let hypervisor = frames::word(&heard.bytes, 0);
-        let region = frames::word(&heard.bytes, 8);
-        return Answer {
-            seen: Seen::wordless(0),
-            booted: true,
-            tables: Tables::boot(hypervisor, region),
-        };
-    }
-    let referee = Referee { tables };
-    let out = referee.settle(check, a, mem);
-    let seen = out.seen;
-    let tables = out.tables;
-    Answer {
-        seen,
-        booted,
-        tables,
-    }
-}
-
-// What an accepted piece comes to.
-fn accepted(written: usize, line: Line, booted: bool, tables: Tables) -> Fed
-    ensures { result ≡ record { number = 0; written = written; replay = record { line = line; booted = booted; tables = tables } } }
-{
-    let replay = Replay {
-        line,
-        booted,
-        tables,
-    };
-    Fed {
-        number: 0,
-        written,
-        replay,
-    }
-}
-
-// ── many lines ──
-// The lines that a piece ends; the bytes after the last feed are kept. Only a line that may change the tables has them moved.
-fn each_line(from: Replay, bytes: &[u8], mem: &mut [u64], out: &mut [u8]) -> Fed
-    requires { feeds bytes.now * answer_bytes ≤ length out.old }
-    ensures { reached result mem.new out.new
-        ≡ gone (held from.line) bytes.now (way from.booted from.tables mem.old out.old 0) }
-{
-    let mut line = from.line.tidy();
-    let mut booted = from.booted;
-    let mut tables = from.tables;
-    let mut written: usize = 0;
-    let mut at: usize = 0;
-    while at < bytes.len() {
-        let end = input::line_end(bytes, at);
-        if bytes.len() <= end {
-            line = line.add(&bytes[at..end]);
-            break;
-        }
-        let heard = line.hear_with(&bytes[at..end]);
-        let a = Action::decode(&heard.bytes);
-        let check = a.number();
-        if booted & referee::moves_nothing(check, a.kind) {
-            let seen = referee::serve(
-                check,
-                a,
-                &tables.present,
-                &tables.running,
-                &tables.map,
-                &tables.tlb,
-                &tables.io_map,
-                &tables.io_tlb,
-                mem,
-            );
-            answers::put(out, written, seen);
-        } else {
-            let t = turn(booted, tables, heard, check, a, mem);
-            answers::put(out, written, t.seen);
-            booted = t.booted;
-            tables = t.tables;
-        }
-        line = Line::empty();
-        written += answers::BYTES;
-        at = end + 1;
-    }
-    accepted(written, line, booted, tables)
-}
-
-// The end of the log: a line that is not finished is a line.
-fn close(fed: Fed, mem: &mut [u64], out: &mut [u8]) -> Fed
-    requires { (fed.replay.line.count ≡ 0 → ⊥) → fed.written + answer_bytes ≤ length out.old }
-    ensures { reached result mem.new out.new ≡ closed (reached fed mem.old out.old) }
-{
-    let from = fed.replay;
-    let last = from.line;
-    let booted = from.booted;
-    let tables = from.tables;
-    let line = Line::empty();
-    if last.count == 0 {
-        return accepted(fed.written, line, booted, tables);
-    }
-    let heard = last.hear();
-    let a = Action::decode(&heard.bytes);
-    let t = turn(booted, tables, heard, a.number(), a, mem);
-    answers::put(out, fed.written, t.seen);
-    accepted(fed.written + answers::BYTES, line, t.booted, t.tables)
-}
-
-// ── before ──
-// 1 for lengths, 2 for tables that are not well formed. A line left open counts where the log ends.
-fn own_number(from: Replay, last: bool, bytes: &[u8], memory: usize, room: usize) -> u8
-    ensures { result ≡ least (piece_rules (length (lines_in last (cut (held from.line) bytes.now))) from.tables memory room) }
-{
-    let ended = input::feeds(bytes);
-    let more = last & from.line.is_open(bytes);
-    let lines = room / answers::BYTES;
-    if (memory != Referee::WORDS) | ((lines < ended) | (more & (lines <= ended))) {
-        return 1;
-    }
-    let tables = from.tables;
-    if !order::wf(tables) {
-        return 2;
-    }
-    0
-}
-
 impl Replay {
+    // ── one line ──
+    // A function pays at entry for each local that holds tables: so what moves them stands apart from what every line goes through.
+    // The first frame: the mask of the hypervisor's pages, then the region's.
+    fn boot(&mut self, frame: &[u8])
+        ensures { self.new ≡ record {
+          line = self.old.line;
+          booted = true;
+          tables = boot (big 8 frame.now 0) (big 8 frame.now 8);
+        } }
+    {
+        self.booted = true;
+        self.tables = Tables::boot(frames::word(frame, 0), frames::word(frame, 8));
+    }
+
+    // An action that may change the tables.
+    fn settle(&mut self, check: u8, a: Action, mem: &mut [u64]) -> Seen
+        ensures { turned result self.new mem.new ≡ made self.old.booted (settled check self.old.tables a mem.old) }
+    {
+        let referee = Referee {
+            tables: self.tables,
+        };
+        let out = referee.settle(check, a, mem);
+        self.tables = out.tables;
+        out.seen
+    }
+
+    // What a line gets, by what it says: nothing gets 3, the first frame boots, each later one is an action.
+    fn turn(&mut self, heard: Option<[u8; Action::BYTES]>, mem: &mut [u64]) -> Seen
+        ensures { turned result self.new mem.new ≡ answered heard (log_of self.old mem.old) }
+    {
+        let Some(frame) = heard else {
+            return Seen::wordless(3);
+        };
+        if !self.booted {
+            self.boot(&frame);
+            return Seen::wordless(0);
+        }
+        let a = Action::decode(&frame);
+        let check = a.number();
+        if !referee::moves_nothing(check, a.kind) {
+            return self.settle(check, a, mem);
+        }
+        referee::serve(
+            check,
+            a,
+            &self.tables.present,
+            &self.tables.running,
+            &self.tables.map,
+            &self.tables.tlb,
+            &self.tables.io_map,
+            &self.tables.io_tlb,
+            mem,
+        )
+    }
+
+    // ── many lines ──
+    // The lines that a piece ends; the bytes after the last feed are kept.
+    fn each_line(mut self, bytes: &[u8], mem: &mut [u64], out: &mut [u8]) -> Fed
+        requires { feeds bytes.now * answer_bytes ≤ length out.old }
+        ensures { reached result mem.new out.new ≡ gone (held self.line) bytes.now (way self mem.old out.old 0) }
+    {
+        let mut line = self.line.tidy();
+        let mut written: usize = 0;
+        let mut rest = bytes;
+        while let Some(end) = input::line_end(rest) {
+            let seen = self.turn(line.hear_with(&rest[..end]), mem);
+            answers::put(out, written, seen);
+            line = Line::empty();
+            written += answers::BYTES;
+            rest = &rest[end + 1..];
+        }
+        self.line = line.add(rest);
+        Fed {
+            number: 0,
+            written,
+            replay: self,
+        }
+    }
+
+    // ── before ──
+    // 1 for lengths, 2 for tables that are not well formed. A line left open counts where the log ends.
+    fn own_number(self, last: bool, bytes: &[u8], memory: usize, room: usize) -> u8
+        ensures { result ≡ least (piece_rules (length (lines_in last (cut (held self.line) bytes.now))) self.tables memory room) }
+    {
+        let lines = input::feeds(bytes) + usize::from(last & self.line.is_open(bytes));
+        if (memory != Referee::WORDS) | (room / answers::BYTES < lines) {
+            return 1;
+        }
+        if !order::wf(self.tables) {
+            return 2;
+        }
+        0
+    }
+
+    // ── calls ──
     // Before the first byte of a log.
     pub fn start() -> Replay
         ensures { result ≡ record { line = kept []; booted = false; tables = empty } }
@@ -190,31 +143,16 @@ impl Replay {
         }
     }
 
-    fn go(self, last: bool, bytes: &[u8], mem: &mut [u64], out: &mut [u8]) -> Fed
-        ensures { reached result mem.new out.new
-            ≡ piece last self.line (log_of self mem.old) bytes.now out.old }
-    {
-        let number = own_number(self, last, bytes, mem.len(), out.len());
-        if number != 0 {
-            return Fed {
-                number,
-                written: 0,
-                replay: self,
-            };
-        }
-        let fed = each_line(self, bytes, mem, out);
-        if last {
-            return close(fed, mem, out);
-        }
-        fed
-    }
-
     // A piece of a log, of any length.
     pub fn feed(mut self, bytes: &[u8], mem: &mut [u64], out: &mut [u8]) -> Fed
         ensures { reached result mem.new out.new
             ≡ piece false self.line (log_of self mem.old) bytes.now out.old }
     {
-        self.go(false, bytes, mem, out)
+        let number = self.own_number(false, bytes, mem.len(), out.len());
+        if number != 0 {
+            return Fed::refused(number, self);
+        }
+        self.each_line(bytes, mem, out)
     }
 
     // The last piece, or the whole log: a last line may lack its feed.
@@ -222,6 +160,38 @@ impl Replay {
         ensures { reached result mem.new out.new
             ≡ piece true self.line (log_of self mem.old) bytes.now out.old }
     {
-        self.go(true, bytes, mem, out)
+        let number = self.own_number(true, bytes, mem.len(), out.len());
+        if number != 0 {
+            return Fed::refused(number, self);
+        }
+        self.each_line(bytes, mem, out).close(mem, out)
+    }
+}
+
+impl Fed {
+    fn refused(number: u8, replay: Replay) -> Fed
+        ensures { result ≡ record { number = number; written = 0; replay = replay } }
+    {
+        Fed {
+            number,
+            written: 0,
+            replay,
+        }
+    }
+
+    // The end of the log: a line that is not finished is a line.
+    fn close(mut self, mem: &mut [u64], out: &mut [u8]) -> Fed
+        requires accepted { self.number ≡ 0 }
+        requires room { (self.replay.line.count ≡ 0 → ⊥) → self.written + answer_bytes ≤ length out.old }
+        ensures { reached result mem.new out.new ≡ closed (reached self mem.old out.old) }
+    {
+        let last = self.replay.line;
+        if last.count != 0 {
+            let seen = self.replay.turn(last.hear(), mem);
+            answers::put(out, self.written, seen);
+            self.written += answers::BYTES;
+        }
+        self.replay.line = Line::empty();
+        self
     }
 }

@@ -23,7 +23,7 @@ use Rattle.numbers.proofs.Bools.{split, isnt-true}
 use Rattle.numbers.proofs.SearchLaws.{upto-at}
 use Rattle.text.specs.Text.{digit, glyph, digits, line_digits, all_digits, well_shaped, bytes_of, feed, cut, unended, all_lines, lines}
 use Rattle.text.specs.Answers.{spelt, answer_bytes}
-use Rattle.text.specs.Walks.{nothing_heard, heard}
+use Rattle.text.specs.Walks.{heard}
 use Rattle.tables.specs.Table.{all, find, has, full, seat, put, wipe, each, uniq}
 use Rattle.tables.specs.Wants.{has_key}
 use Rattle.tables.specs.State.{reach, effective_entry, bare, empty, bit, tabulate, boot}
@@ -102,7 +102,7 @@ record Facts : Type 0 where
 facts : Facts
 unfolding line head body s one marked-at keeps
     digit glyph digits line_digits all_digits well_shaped bytes_of feed cut unended all_lines
-    turn spelt answer_bytes after_lines answers start nothing_heard heard
+    turn spelt answer_bytes after_lines answers start heard
     frame_bytes guests units pages gpages accesses page_words access_span page_span gpage_span guest_span unit_span
     map_room tlb_room pair_room ◌and◌ ◌or◌ isnt least first upto page_of offset_of word_of
     key_of entry access_in page_in key_in readable writable big decode kinds row_of uses stray beyond

@@ -1,23 +1,44 @@
 -- A booted log is a list of actions: what a line gets is what its action gets, and each answer line spells it.
 use mathlib.Core.Path.{◌≡◌, refl, sym, ◌∙◌, ap}
-use mathlib.Core.Bool.{true}
+use mathlib.Core.Bool.{Bool, true}
 use mathlib.Core.List.{List, [], ◌∷◌, ◌++◌, append_assoc}
 use Prim.Native.Nat.{ℕ, zero, suc, ◌+◌, ◌*◌, ◌<◌}
 use native.Mathlib.Omega.{arith}
-use lib.ListN.{length, take, drop}
+use lib.ListN.{length, take, drop, replicate}
 use lib.Seq.{take_at, drop-append-add}
+use Rattle.std.specs.Option.{unwrap_or}
+use Rattle.numbers.specs.Sizes.{frame_bytes}
+use Rattle.numbers.specs.Frames.{big, decode, kinds, row_of, frame_number}
+use Rattle.numbers.specs.Rules.{least}
+use Rattle.numbers.specs.Search.{first}
+use Rattle.numbers.specs.Answers.{wordless}
 use Rattle.numbers.specs.declared.answers.Seen.{Seen}
 use Rattle.numbers.specs.declared.frames.Action.{Action}
+use Rattle.numbers.proofs.Bools.{split}
 use Rattle.rules.specs.Actions.{Outcome}
 use Rattle.rules.specs.Calls.{taken, Machine, after, answer}
-use Rattle.text.specs.Text.{digits, feed}
+use Rattle.calls.proofs.FrontLaws.{frame_refused}
+use Rattle.text.specs.Text.{digits, feed, well_shaped}
+use Rattle.text.specs.Walks.{heard}
 use Rattle.text.specs.Answers.{spelt, answer_bytes}
 use Rattle.text.proofs.AnswerLaws.{length_digits, length-spelt}
-use Rattle.lines.specs.Log.{Log, Turn, turn, answer_line, after_lines, answers}
-use Rattle.lines.proofs.TurnLaws.{turn-action}
+use Rattle.lines.specs.Log.{Log, Turn, acts, turn, answer_line, after_lines, answers}
+use Rattle.lines.specs.Walks.{made}
 use Rattle.logs.specs.Secrets.{action_of, action_in, machine_of, line_at}
 
 -- ── one line ──
+-- a bad line's action is refused with 3
+zeros-refused : frame_number (decode (replicate frame_bytes 0)) ≡ 3
+unfolding frame_bytes decode big kinds row_of first least frame_number
+zeros-refused = refl
+
+turn-action : (s : Log) (l : List ℕ) → s.booted ≡ true → turn s l ≡ acts (unwrap_or (heard l) (replicate frame_bytes 0)) s
+unfolding turn heard
+turn-action s l b = split (well_shaped l)
+    (λ e. rw (e, b))
+    (λ e. rw e (ap (λ (x : Bool). record { seen = wordless 3; log = record { booted = x; tables = s.tables; memory = s.memory } }) b
+    ∙ ap (made true) (frame_refused s.tables _ s.memory (sym zeros-refused) (λ (z : ◌≡◌ {A = ℕ} 3 0). omega arith))))
+
 -- a booted log stays booted
 still-booted : (s : Log) (l : List ℕ) → s.booted ≡ true → (turn s l).log.booted ≡ true
 still-booted s l b = ap (λ (t : Turn). t.log.booted) (turn-action s l b)

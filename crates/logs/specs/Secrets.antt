@@ -1,7 +1,9 @@
 -- Demand 3 of a log: two logs that differ only in words that guest g writes into its marked pages get the same answer lines, but for
 -- the words of the lines that answer g itself. After its boot a log is a list of actions; what is marked, and which actions may differ,
 -- is what the page of the demands says of such a list.
-use Rattle.std.specs.Prelude.{ℕ, ◌*◌, ◌<◌, ◌≡◌, true, List, [], ◌++◌, length, take, drop, get_or}
+use Rattle.std.specs.Prelude.{ℕ, ◌*◌, ◌<◌, ◌≡◌, true, List, [], ◌++◌, length, take, drop, get_or, replicate}
+use Rattle.std.specs.Option.{unwrap_or}
+use Rattle.numbers.specs.Sizes.{frame_bytes}
 use Rattle.numbers.specs.Frames.{decode}
 use Rattle.numbers.specs.declared.frames.Action.{Action}
 use Rattle.rules.specs.Calls.{Machine}
@@ -15,7 +17,7 @@ use Rattle.lines.specs.Pieces.{Passed}
 -- ── a log as a list of actions ──
 -- what a line stands for. A bad one stands for 16 zeros: their kind is none, so they get 3 as it does
 abbrev pub action_of : List ℕ → Action
-action_of l = decode (heard l).bytes
+action_of l = decode (unwrap_or (heard l) (replicate frame_bytes 0))
 
 abbrev pub action_in : List (List ℕ) → ℕ → Action
 action_in ls i = action_of (get_or ls i [])

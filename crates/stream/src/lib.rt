@@ -13,19 +13,6 @@ const BYTES: usize = 65536;
 
 const ROOM: usize = BYTES * answers::BYTES;
 
-// What a turn leaves: whether to go on, and where the log then stands.
-#[derive(Drop)]
-struct Left {
-    more: bool,
-    log: Replay,
-}
-
-fn room() -> [u8; ROOM]
-    ensures { 1245184 ≡ length result }
-{
-    [0; ROOM]
-}
-
 // There is nowhere to say that this could not be said.
 fn say(rt: &impl Eprint, text: &str) {
     let _ = rt.eprintln(text);
@@ -41,8 +28,8 @@ fn answer(log: Replay, bytes: &[u8], mem: &mut [u64], out: &mut [u8]) -> Fed
     log.feed(bytes, mem, out)
 }
 
-// Reads once, and writes the answers to what came. Nothing more comes after the end of the log, nor after a read or a write that failed:
-// a log that could not be read to its end is not closed.
+// Reads once, and writes the answers to what came. Gives the log to go on with: there is none after its end, nor after a read or a write that
+// failed. A log that could not be read to its end is not closed.
 fn turn<R: Read, W: Write>(
     rt: &impl Eprint,
     from: &mut R,
@@ -51,37 +38,34 @@ fn turn<R: Read, W: Write>(
     bytes: &mut [u8],
     mem: &mut [u64],
     out: &mut [u8],
-) -> Left {
+) -> Option<Replay> {
     let Ok(n) = from.read(bytes) else {
         say(rt, "replay: the log could not be read");
-        return Left { more: false, log };
+        return None;
     };
     let fed = answer(log, &bytes[..n], mem, out);
-    let log = fed.replay;
     // not of a log from its start, with this much room: `never-refused` in crate `logs`
     if fed.number != 0 {
         say(rt, "replay: a piece of the log was refused");
-        return Left { more: false, log };
+        return None;
     }
-    let sent = to.write_all(&out[..fed.written]).is_ok();
-    if !sent {
+    if to.write_all(&out[..fed.written]).is_err() {
         say(rt, "replay: the answers could not be written");
+        return None;
     }
-    let more = sent & (n != 0);
-    Left { more, log }
+    (n != 0).then_some(fed.replay)
 }
 
 // A whole log. A proved loop has to end, and nothing says that a log does: so turns are counted, up to a number that no run comes to.
 pub fn replay<R: Read, W: Write>(rt: &impl Eprint, from: &mut R, to: &mut W) {
     let mut mem = [0u64; Referee::WORDS];
     let mut bytes = [0u8; BYTES];
-    let mut out = room();
+    let mut out = [0u8; ROOM];
     let mut log = Replay::start();
     for _ in 0..u64::MAX {
-        let left = turn(rt, from, to, log, &mut bytes, &mut mem, &mut out);
-        if !left.more {
+        let Some(next) = turn(rt, from, to, log, &mut bytes, &mut mem, &mut out) else {
             break;
-        }
-        log = left.log;
+        };
+        log = next;
     }
 }

@@ -1,14 +1,15 @@
 -- The lines of a text, one line feed at a time.
 use mathlib.Core.Path.{◌≡◌, refl, ap, ◌∙◌}
-use mathlib.Core.Bool.{cond}
+use mathlib.Core.Bool.{Bool, cond}
 use mathlib.Core.List.{List, [], ◌∷◌, ◌++◌, append_assoc, append-nil}
 use Prim.Native.Nat.{ℕ, suc, ◌+◌, ◌-◌, ◌≤◌, ◌<◌}
 use native.Mathlib.Omega.{arith}
-use lib.Dec.{eqb, eqb-suc-zero}
+use lib.Dec.{eqb, eqb-suc-zero, ltb}
 use lib.ListN.{length, take, drop, get_or, length-append}
-use borrow.Author.Tests.{ne_eqb}
-use Rattle.numbers.specs.Search.{first}
-use Rattle.numbers.proofs.Bools.{split, eqb_comm}
+use borrow.Author.Tests.{ne_eqb, ltb-true, ltb-false}
+use Rattle.std.specs.Prelude.{Some, None}
+use Rattle.std.specs.List.{position, position_or_len}
+use Rattle.numbers.proofs.Bools.{split}
 use Rattle.text.specs.Text.{Cut, feed, cut, unended, all_lines}
 use Rattle.text.specs.Walks.{feeds}
 
@@ -22,32 +23,65 @@ cut-append h (x ∷ a) b = split (eqb x feed)
     (λ e. rw e (cut-append (h ++ x ∷ []) a b))
 
 -- ── up to the first line feed ──
-pub cut_line : (h l : List ℕ) → first (eqb feed) l < length l →
+abbrev is_feed : ℕ → Bool
+is_feed b = eqb b feed
+
+abbrev line_end : List ℕ → ℕ
+line_end l = position_or_len is_feed l
+
+-- what an answer of where the first line ends says
+ends-at : (l : List ℕ) {n : ℕ} → Some n ≡ position (λ b. eqb b feed) l → (n ≡ line_end l) × (line_end l < length l)
+ends-at l {n} e = split (ltb (line_end l) (length l))
+    (λ t. let q : Some n ≡ Some (line_end l) = rw t at e in (cc, ltb-true _ _ t))
+    (λ t. let q : Some n ≡ None = rw t at e in cc)
+
+no-end : (l : List ℕ) → None ≡ position (λ b. eqb b feed) l → length l ≤ line_end l
+no-end l e = split (ltb (line_end l) (length l))
+    (λ t. let q : None ≡ Some (line_end l) = rw t at e in cc)
+    (λ t. ltb-false _ _ t)
+
+one-more : (n : ℕ) → 1 + n ≡ suc n
+one-more n = omega arith
+
+at-line : (h l : List ℕ) → line_end l < length l →
     cut h l ≡ record {
-      ended = (h ++ take (first (eqb feed) l) l) ∷ (cut [] (drop (suc (first (eqb feed) l)) l)).ended;
-      rest = (cut [] (drop (suc (first (eqb feed) l)) l)).rest;
+      ended = (h ++ take (line_end l) l) ∷ (cut [] (drop (suc (line_end l)) l)).ended;
+      rest = (cut [] (drop (suc (line_end l)) l)).rest;
     }
-unfolding cut first
-cut_line h [] k = absurd (omega arith)
-cut_line h (x ∷ l) k = split (eqb x feed)
-    (λ e. let f = eqb_comm feed x ∙ e in rw (e, f, append-nil))
-    (λ e. let f = eqb_comm feed x ∙ e in rw (e, f) (cut_line (h ++ x ∷ []) l (let q = rw f at k in omega arith) ∙ rw append_assoc))
+unfolding cut
+at-line h [] k = absurd (omega arith)
+at-line h (x ∷ l) k = split (eqb x feed)
+    (λ e. rw (e, append-nil))
+    (λ e. rw (e, one-more (line_end l)) (at-line (h ++ x ∷ []) l (let q = rw e at k in omega arith) ∙ rw append_assoc))
 
 -- where there is none, all of it is left
-pub cut-rest : (h l : List ℕ) → length l ≤ first (eqb feed) l → cut h l ≡ record { ended = []; rest = h ++ l }
-unfolding cut first
-cut-rest h [] k = rw append-nil
-cut-rest h (x ∷ l) k = split (eqb x feed)
-    (λ e. let f = eqb_comm feed x ∙ e in let q = rw f at k in absurd (omega arith))
-    (λ e. let f = eqb_comm feed x ∙ e in rw e (cut-rest (h ++ x ∷ []) l (let q = rw f at k in omega arith) ∙ rw append_assoc))
+at-rest : (h l : List ℕ) → length l ≤ line_end l → cut h l ≡ record { ended = []; rest = h ++ l }
+unfolding cut
+at-rest h [] k = rw append-nil
+at-rest h (x ∷ l) k = split (eqb x feed)
+    (λ e. let q = rw e at k in absurd (omega arith))
+    (λ e. rw e (at-rest (h ++ x ∷ []) l (let q = rw e at k in omega arith) ∙ rw append_assoc))
+
+at-feed : (l : List ℕ) → line_end l < length l → feeds l ≡ suc (feeds (drop (suc (line_end l)) l))
+unfolding feeds
+at-feed [] k = absurd (omega arith)
+at-feed (x ∷ l) k = split (eqb x feed)
+    (λ e. rw e (omega arith))
+    (λ e. rw (e, one-more (line_end l)) (let i = at-feed l (let q = rw e at k in omega arith) in omega arith))
+
+pub end-inside : (l : List ℕ) {n : ℕ} → Some n ≡ position (λ b. eqb b feed) l → n < length l
+end-inside l e = let q = ends-at l e in omega arith
+
+pub cut_line : (h l : List ℕ) {n : ℕ} → Some n ≡ position (λ b. eqb b feed) l →
+    cut h l ≡ record { ended = (h ++ take n l) ∷ (cut [] (drop (suc n) l)).ended; rest = (cut [] (drop (suc n) l)).rest }
+cut_line h l e = let q = ends-at l e in rw q.0 (at-line h l q.1)
+
+pub cut-rest : (h l : List ℕ) → None ≡ position (λ b. eqb b feed) l → cut h l ≡ record { ended = []; rest = h ++ l }
+cut-rest h l e = at-rest h l (no-end l e)
 
 -- ── how many lines ──
-pub feeds-line : (l : List ℕ) → first (eqb feed) l < length l → feeds l ≡ suc (feeds (drop (suc (first (eqb feed) l)) l))
-unfolding feeds first
-feeds-line [] k = absurd (omega arith)
-feeds-line (x ∷ l) k = split (eqb x feed)
-    (λ e. let f = eqb_comm feed x ∙ e in rw (e, f) (omega arith))
-    (λ e. let f = eqb_comm feed x ∙ e in rw (e, f) (let i = feeds-line l (let q = rw f at k in omega arith) in omega arith))
+pub feeds-line : (l : List ℕ) {n : ℕ} → Some n ≡ position (λ b. eqb b feed) l → feeds l ≡ suc (feeds (drop (suc n) l))
+feeds-line l e = let q = ends-at l e in rw q.0 (at-feed l q.1)
 
 pub ended-feeds : (h l : List ℕ) → length (cut h l).ended ≡ feeds l
 unfolding cut feeds

@@ -7,9 +7,13 @@ use native.Mathlib.Nat.{zero-min, suc-min-suc}
 use native.Mathlib.Numerals.{add-one}
 use native.Mathlib.Omega.{arith}
 use lib.Dec.{eqb, leb, ltb}
-use lib.ListN.{length, take, get_or, set, length-append, length-take, length-set}
+use lib.ListN.{length, take, set, length-append, length-take, length-set}
 use lib.Seq.{take-nil, take_all, take-append-le, take-suc-set, append_snoc}
 use borrow.Author.Tests.{ltb-true, ltb-false, leb-true, leb-false, eqb-true, eq-eqb, le-ltb}
+use Rattle.std.specs.Prelude.{Some}
+use Rattle.std.specs.List.{slice_get}
+use Rattle.std.proofs.lemmas.List.{take_min}
+use Rattle.std.proofs.lemmas.Option.{slice_get_within, get_or_from_slice_get}
 use Rattle.numbers.specs.Sizes.{frame_bytes}
 use Rattle.numbers.specs.Tests.{isnt}
 use Rattle.numbers.proofs.Bools.{split, bool-ext}
@@ -130,13 +134,9 @@ pub take-grown : (l k a : List ℕ) → take most l ≡ take most k → take mos
 take-grown l k a e = sym (take-front most l a) ∙ ap (λ (r : List ℕ). take most (r ++ a)) e ∙ take-front most k a
 
 -- ── the kept bytes as a part of the text ──
-pub held_whole : (x : Line) → length x.text ≡ 33 → 33 ≤ x.count → x.text ≡ held x
+pub held-part : (x : Line) → length x.text ≡ 33 → take (min x.count 33) x.text ≡ held x
 unfolding held
-held_whole x n l = sym (take_all x.count x.text (omega arith))
-
-pub held-part : (x : Line) → take (x.count - 0) x.text ≡ held x
-unfolding held
-held-part x = let e : x.count - 0 ≡ x.count = omega arith in ap (λ (n : ℕ). take n x.text) e
+held-part x n = ap (λ (m : ℕ). take (min x.count m) x.text) (sym n) ∙ take_min x.count x.text
 
 pub held_none : (x : Line) (l : List ℕ) → x.count ≡ 0 → l ≡ held x ++ l
 unfolding held
@@ -172,7 +172,9 @@ open-before x [] n e =
     (λ t. let z = eqb-true (length (take x.count x.text)) 0 t in eq-eqb x.count 0 (omega arith)))
 open-before x (b ∷ l) n e = absurd (omega arith)
 
-pub open-last : (x : Line) (l : List ℕ) → (length l ≡ 0 → ⊥) →
-    not (eqb (get_or l (length l - 1) 0) 10) ≡ isnt (eqb (length (cut (held x) l).rest) 0)
+pub open-last : (x : Line) (l : List ℕ) (b : ℕ) → Some b ≡ slice_get l (length l - 1) →
+    not (eqb b 10) ≡ isnt (eqb (length (cut (held x) l).rest) 0)
 unfolding feed isnt
-open-last x l n = ap not (sym (rest-last (held x) l (omega arith)))
+open-last x l b e =
+    let some : 0 < length l = let k = slice_get_within l (length l - 1) b (sym e) in omega arith in
+    rw (← get_or_from_slice_get l (length l - 1) b 0 (sym e)) (ap not (sym (rest-last (held x) l some)))

@@ -1,18 +1,12 @@
 -- What the code has on its way through a text.
-use Rattle.std.specs.Prelude.{ℕ, ◌+◌, true, false, cond, List, [], ◌∷◌, eqb, ltb, set, replicate}
-use Rattle.numbers.specs.Sizes.{frame_bytes}
+use Rattle.std.specs.Prelude.{ℕ, ◌+◌, cond, List, [], ◌∷◌, Option, Some, None, eqb, ltb, set}
 use Rattle.text.specs.Text.{well_shaped, bytes_of, feed}
 use Rattle.text.specs.Line.{most}
-use Rattle.text.specs.declared.input.Heard.{Heard}
 use Rattle.text.specs.declared.line.Line.{Line}
 
--- ── what a line says ──
--- a bad one says zeros: their kind is none, so after the boot they get 3 like any frame of no kind
-unfoldable pub nothing_heard : Heard
-nothing_heard = record { good = false; bytes = replicate frame_bytes 0 }
-
-unfoldable pub heard : List ℕ → Heard
-heard l = cond (well_shaped l) (record { good = true; bytes = bytes_of l }) nothing_heard
+-- ── what a line says: the bytes of a frame, or nothing ──
+unfoldable pub heard : List ℕ → Option (List ℕ)
+heard l = cond (well_shaped l) (Some (bytes_of l)) None
 
 -- ── the unfinished line, a byte more, and many ──
 unfoldable pub pushed : Line → ℕ → Line

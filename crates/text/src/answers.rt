@@ -10,24 +10,22 @@ use numbers::answers::Seen;
 // How many bytes an answer line has: 2 digits of number, 16 of word, a feed.
 pub const BYTES: usize = 19;
 
+#[tactic(auto, using(std::proofs::lemmas::Bool::Decides::nat_tests), unfolding(crate::specs::Text::glyph))]
 fn glyph(d: u8) -> u8
     requires { d < 16 }
     ensures { result ≡ glyph d }
 {
-    if d < 10 { 48 + d } else { 87 + d }
+    if d < 10 { b'0' + d } else { b'a' + (d - 10) }
 }
 
-// The last n digits of a number, from a place on.
-fn spell(out: &mut [u8], at: usize, n: usize, number: u64)
-    requires { at + n ≤ length out.old }
-    ensures { out.new ≡ sets out.old at (digits n number) }
+// The last digits of a number, as many as there are places.
+fn spell(out: &mut [u8], number: u64)
+    ensures { out.new ≡ digits (length out.old) number }
 {
     let mut rest = number;
-    let mut i = n;
-    while 0 < i {
-        i -= 1;
-        out[at + i] = glyph((rest % 16) as u8);
-        rest = rest / 16;
+    for i in (0..out.len()).rev() {
+        out[i] = glyph((rest % 16) as u8);
+        rest /= 16;
     }
 }
 
@@ -35,13 +33,11 @@ fn spell(out: &mut [u8], at: usize, n: usize, number: u64)
 pub fn put(out: &mut [u8], at: usize, seen: Seen)
     ensures { out.new ≡ placed out.old at (spelt seen) }
 {
-    if out.len() < at {
+    if out.len().saturating_sub(at) < BYTES {
         return;
     }
-    if out.len() - at < BYTES {
-        return;
-    }
-    spell(out, at, 2, seen.number as u64);
-    spell(out, at + 2, 16, seen.word);
-    out[at + 18] = input::FEED;
+    let line = &mut out[at..at + BYTES];
+    spell(&mut line[..2], u64::from(seen.number));
+    spell(&mut line[2..18], seen.word);
+    line[18] = input::FEED;
 }

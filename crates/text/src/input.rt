@@ -1,93 +1,63 @@
 // Bytes of a log: its line feeds, and the frame that a line's digits spell.
-ghost use Rattle.std.specs.Prelude.{◌≡◌, ◌+◌, eqb, drop};
-ghost use Rattle.numbers.specs.Search.{first};
+ghost use Rattle.std.specs.Prelude.{◌≡◌, cond, eqb, ltb, Some, None, position};
 ghost use Rattle.text.specs.Text.{digit, feed};
-ghost use Rattle.text.specs.Walks.{nothing_heard, heard, feeds};
+ghost use Rattle.text.specs.Walks.{heard, feeds};
 
 use numbers::frames::Action;
 
-pub const FEED: u8 = 10;
+pub const FEED: u8 = b'\n';
 
 // How many digits a line has: two for each byte of a frame.
 pub const DIGITS: usize = 2 * Action::BYTES;
 
-const NONE: u8 = 16;
-
-// What a line says: the bytes of a frame, or nothing.
-#[derive(Clone, Copy)]
-pub struct Heard {
-    pub good: bool,
-    pub bytes: [u8; Action::BYTES],
-}
-
-// The value of a digit, and 16 for any other byte.
-fn digit(b: u8) -> u8
-    ensures { result ≡ digit b }
+// The value of a digit.
+#[tactic(auto, using(std::proofs::lemmas::Bool::Decides::nat_tests, crate::proofs::TextLaws::digit_by_range))]
+fn digit(b: u8) -> Option<u8>
+    ensures { result ≡ cond (ltb (digit b) 16) (Some (digit b)) None }
 {
-    if (48 <= b) & (b <= 57) {
-        return b - 48;
-    }
-    if (97 <= b) & (b <= 102) {
-        return b - 87;
-    }
-    NONE
-}
-
-fn nothing_heard() -> Heard
-    ensures { result ≡ nothing_heard }
-{
-    Heard {
-        good: false,
-        bytes: [0; Action::BYTES],
+    match b {
+        b'0'..=b'9' => Some(b - b'0'),
+        b'a'..=b'f' => Some(b - b'a' + 10),
+        _ => None,
     }
 }
 
-// A line, without its feed.
-pub fn hear(line: &[u8]) -> Heard
+// What a line says, without its feed: the bytes of a frame, if it has a frame's digits and nothing else.
+pub fn hear(line: &[u8]) -> Option<[u8; Action::BYTES]>
     ensures { result ≡ heard line.now }
 {
     if line.len() != DIGITS {
-        return nothing_heard();
+        return None;
     }
     let mut bytes = [0u8; Action::BYTES];
-    let mut i: usize = 0;
-    while i < Action::BYTES {
+    let mut good = true;
+    // to the end, also past a byte that is no digit: a loop that leaves early takes a branch for each byte
+    for i in 0..Action::BYTES {
         let high = digit(line[2 * i]);
         let low = digit(line[2 * i + 1]);
-        if (NONE <= high) | (NONE <= low) {
-            return nothing_heard();
-        }
-        bytes[i] = high * 16 + low;
-        i += 1;
+        good &= high.is_some() & low.is_some();
+        bytes[i] = high.unwrap_or(0) * 16 + low.unwrap_or(0);
     }
-    Heard { good: true, bytes }
+    good.then_some(bytes)
 }
 
-// Where the line that starts at a place ends: at its feed, or else at the end of the bytes.
-pub fn line_end(bytes: &[u8], at: usize) -> usize
-    ensures { result ≡ at + first (eqb feed) (drop at bytes.now) }
+// Where the first line ends: the place of its feed, if it has one.
+pub fn line_end(bytes: &[u8]) -> Option<usize>
+    ensures { result ≡ position (λ b. eqb b feed) bytes.now }
 {
-    let mut i = at;
-    while i < bytes.len() {
-        if FEED == bytes[i] {
-            return i;
-        }
-        i += 1;
-    }
-    i
+    bytes.iter().position(|b| *b == FEED)
 }
 
 // How many lines are ended.
+#[tactic(auto, using(std::proofs::lemmas::Grind::common_steps, crate::proofs::TextLaws::feeds_are), unfolding(crate::specs::Text::feed))]
 pub fn feeds(bytes: &[u8]) -> usize
     ensures { result ≡ feeds bytes.now }
 {
-    let mut n: usize = 0;
-    let mut i: usize = 0;
-    while i < bytes.len() {
-        if bytes[i] == FEED {
+    let mut n = 0;
+    for b in bytes {
+        if *b == FEED {
             n += 1;
         }
-        i += 1;
     }
     n
 }

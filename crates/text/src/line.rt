@@ -6,9 +6,9 @@ ghost use Rattle.text.specs.Line.{kept, held};
 ghost use Rattle.text.specs.Walks.{heard, pushed, added};
 
 use crate::input;
-use crate::input::Heard;
+use numbers::frames::Action;
 
-#[derive(Clone, Copy)]
+#[derive(Clone, Copy, Debug, PartialEq, Eq)]
 pub struct Line {
     // how many bytes of it are kept
     pub count: usize,
@@ -28,65 +28,57 @@ impl Line {
         }
     }
 
-    fn push(self, b: u8) -> Line
+    // The bytes that are kept.
+    fn held(&self) -> &[u8]
+        ensures { result.now ≡ held self.now }
+    {
+        &self.text[..self.count.min(Line::MOST)]
+    }
+
+    #[tactic(auto, using(std::proofs::lemmas::Bool::Decides::nat_tests), unfolding(crate::specs::Walks::pushed, crate::specs::Line::most, crate::specs::Text::line_digits, numbers::specs::Sizes::frame_bytes))]
+    fn push(mut self, b: u8) -> Line
         ensures { result ≡ pushed self b }
     {
-        if Line::MOST <= self.count {
-            return self;
+        if self.count < Line::MOST {
+            self.text[self.count] = b;
+            self.count += 1;
         }
-        let mut text = self.text;
-        let n = self.count;
-        text[n] = b;
-        Line { count: n + 1, text }
+        self
     }
 
     // More bytes of it, none of them a feed.
-    pub fn add(mut self, more: &[u8]) -> Line
+    pub fn add(self, more: &[u8]) -> Line
         ensures { result ≡ added self more.now }
     {
         let mut line = self;
-        let mut i: usize = 0;
-        while i < more.len() {
-            line = line.push(more[i]);
-            i += 1;
+        for b in more {
+            line = line.push(*b);
         }
         line
     }
 
     // What it says as it stands.
-    pub fn hear(self) -> Heard
+    pub fn hear(self) -> Option<[u8; Action::BYTES]>
         ensures { result ≡ heard (held self) }
     {
-        let text = self.text;
-        if Line::MOST <= self.count {
-            return input::hear(&text);
-        }
-        let n = self.count;
-        input::hear(&text[0..n])
+        input::hear(self.held())
     }
 
     // What it says with its last bytes. They are copied only where there are bytes before them.
-    pub fn hear_with(self, more: &[u8]) -> Heard
+    pub fn hear_with(self, more: &[u8]) -> Option<[u8; Action::BYTES]>
         ensures { result ≡ heard (held self ++ more.now) }
     {
         if self.count == 0 {
             return input::hear(more);
         }
-        let line = self.add(more);
-        line.hear()
+        self.add(more).hear()
     }
 
     // The same text, with nothing behind it.
     pub fn tidy(self) -> Line
         ensures { result ≡ kept (held self) }
     {
-        let text = self.text;
-        let line = Line::empty();
-        if Line::MOST <= self.count {
-            return line.add(&text);
-        }
-        let n = self.count;
-        line.add(&text[0..n])
+        Line::empty().add(self.held())
     }
 
     // Whether bytes stand after the last feed of a text that goes on from it: the text does not end with a feed; or it is empty, and bytes
@@ -94,10 +86,9 @@ impl Line {
     pub fn is_open(self, bytes: &[u8]) -> bool
         ensures { result ≡ isnt (eqb (length (cut (held self) bytes.now).rest) 0) }
     {
-        let n = bytes.len();
-        if n == 0 {
-            return self.count != 0;
+        match bytes.last() {
+            Some(last) => *last != input::FEED,
+            None => self.count != 0,
         }
-        bytes[n - 1] != input::FEED
     }
 }

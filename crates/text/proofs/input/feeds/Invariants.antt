@@ -1,11 +1,7 @@
-use mathlib.Core.Path.{◌≡◌}
-use Prim.Native.Nat.{◌+◌, ◌≤◌, ◌-◌}
-use lib.ListN.{length, drop}
-use Rattle.text.specs.Walks.{feeds}
+use Rattle.std.proofs.Common.{◌≡◌, take, eqb}
+use Rattle.std.specs.List.{count_by}
+use Rattle.text.specs.Text.{feed}
 use Rattle.text.proofs.input.feeds.Given as goal
 
-abbrev pub invariant-loop-i : goal.invariant-loop-i
-invariant-loop-i l = (l.i ≤ length l.bytes) × (l.n ≤ l.i) × (l.n + feeds (drop l.i l.bytes) ≡ feeds l.bytes)
-
-abbrev pub decreases-loop-i : goal.decreases-loop-i
-decreases-loop-i l = length l.bytes - l.i
+abbrev pub invariant-loop-b : goal.invariant-loop-b
+invariant-loop-b l = l.n ≡ count_by (λ b. eqb b feed) (take l.b-index l.bytes)

@@ -1,10 +1,5 @@
-use Prim.Native.Nat.{◌-◌}
-use Rattle.numbers.specs.Sizes.{frame_bytes}
 use Rattle.text.proofs.TextLaws.{Spelt}
 use Rattle.text.proofs.input.hear.Given as goal
 
 abbrev pub invariant-loop-i : goal.invariant-loop-i
-invariant-loop-i l = Spelt l.line l.bytes l.i
-
-abbrev pub decreases-loop-i : goal.decreases-loop-i
-decreases-loop-i l = frame_bytes - l.i
+invariant-loop-i l = Spelt l.line l.bytes l.good l.i

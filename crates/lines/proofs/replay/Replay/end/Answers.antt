@@ -1,11 +1,25 @@
 -- `lines::replay::Replay::end` meets its contract.
+use Rattle.std.proofs.Common.{true, refl, ◌∙◌, ap}
+use Rattle.lines.specs.Pieces.{log_of, reached}
+use Rattle.lines.proofs.Going.{refused-is, room-for-lines, gone-accepted, room-to-close, closed_is}
 use Rattle.lines.proofs.replay.Replay.end.Goals as goal
 
-pub shape_of-mem : goal.shape_of-mem
-shape_of-mem c = c.mem-1.given
+pub returns-then-number-ne0 : goal.returns-then-number-ne0
+returns-then-number-ne0 c = let t = c.args in
+    ap (λ r. reached r t.mem.now t.out.now) c.refused.ensures
+    ∙ refused-is _ _ (log_of t.self t.mem.now) _ _ c.own_number-number.ensures c.if-number-ne0.true
 
-pub shape_of-out : goal.shape_of-out
-shape_of-out c = c.out-1.given
+pub each_line-requires : goal.each_line-requires
+each_line-requires c = let t = c.args in
+    room-for-lines true t.self.line (log_of t.self t.mem.now) t.bytes.now t.out.now c.own_number-number.ensures c.if-number-ne0.false
+
+pub close-requires : goal.close-requires
+close-requires c = let t = c.args in record {
+  accepted = gone-accepted true _ (log_of t.self t.mem.now) _ t.out.now c.own_number-number.ensures c.if-number-ne0.false c.each_line.ensures;
+  room = room-to-close true _ (log_of t.self t.mem.now) _ t.out.now c.own_number-number.ensures c.if-number-ne0.false c.each_line.ensures refl;
+}
 
 pub returns : goal.returns
-returns c = c.go.ensures
+returns c = let t = c.args in
+    closed_is _ _ (log_of t.self t.mem.now) _ t.out.now c.own_number-number.ensures c.if-number-ne0.false c.each_line.ensures refl
+    c.close.ensures
