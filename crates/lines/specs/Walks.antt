@@ -1,8 +1,7 @@
 -- A log as the code goes through it, and what stands on the way. The promises of public calls are in Pieces; these are of the parts.
-use Rattle.std.specs.Prelude.{ℕ, ◌+◌, Bool, cond, List, [], ◌∷◌, Option, Some, None}
+use Rattle.std.specs.Prelude.{ℕ, ◌+◌, cond, List, [], ◌∷◌, Option, Some, None}
 use Rattle.std.proofs.lemmas.List.Edits.{sets}
 use Rattle.numbers.specs.declared.answers.Seen.{Seen}
-use Rattle.rules.specs.Actions.{Outcome}
 use Rattle.text.specs.Text.{cut, unended}
 use Rattle.text.specs.Answers.{answer_bytes}
 use Rattle.text.specs.Line.{kept, held}
@@ -17,10 +16,6 @@ answered (Some bytes) s = cond s.booted (acts bytes s) (boots bytes s)
 
 abbrev pub turned : Seen → Replay → List ℕ → Turn
 turned x r ws = record { seen = x; log = log_of r ws }
-
--- what an action makes of a log
-abbrev pub made : Bool → Outcome → Turn
-made booted o = record { seen = o.seen; log = record { booted = booted; tables = o.tables; memory = o.memory } }
 
 -- ── lines, one after the other ──
 pub record Way : Type 0 where

@@ -1,21 +1,22 @@
 // A log, a piece at a time: each line gets its answer line.
 ghost use Rattle.std.specs.Prelude.{◌≡◌, true, false, [], ◌+◌, ◌*◌, ◌≤◌, length};
+ghost use Rattle.numbers.specs.Refusals.{numbered, number_of};
 ghost use Rattle.numbers.specs.Rules.{least};
 ghost use Rattle.numbers.specs.Frames.{big};
-ghost use Rattle.calls.specs.Dispatch.{settled};
 ghost use Rattle.tables.specs.State.{empty, boot};
 ghost use Rattle.text.specs.Text.{cut};
 ghost use Rattle.text.specs.Answers.{answer_bytes};
 ghost use Rattle.text.specs.Line.{kept, held};
 ghost use Rattle.text.specs.Walks.{feeds};
 ghost use Rattle.lines.specs.Pieces.{lines_in, piece_rules, piece, log_of, reached};
-ghost use Rattle.lines.specs.Walks.{made, turned, answered, way, gone, closed};
+ghost use Rattle.lines.specs.Walks.{turned, answered, way, gone, closed};
 
 use calls::referee;
 use calls::referee::Referee;
 use numbers::answers::Seen;
 use numbers::frames;
 use numbers::frames::Action;
+use numbers::refusals::Refusal;
 use tables::state::Tables;
 use text::line::Line;
 use text::{answers, input};
@@ -38,7 +39,7 @@ pub struct Fed {
 
 impl Replay {
     // ── one line ──
-    // A function pays at entry for each local that holds tables: so what moves them stands apart from what every line goes through.
+    // A function pays at entry for each local that holds tables: so the boot stands apart from what every line goes through.
     // The first frame: the mask of the hypervisor's pages, then the region's.
     fn boot(&mut self, frame: &[u8])
         ensures { self.new ≡ record {
@@ -51,45 +52,18 @@ impl Replay {
         self.tables = Tables::boot(frames::word(frame, 0), frames::word(frame, 8));
     }
 
-    // An action that may change the tables.
-    fn settle(&mut self, check: u8, a: Action, mem: &mut [u64]) -> Seen
-        ensures { turned result self.new mem.new ≡ made self.old.booted (settled check self.old.tables a mem.old) }
-    {
-        let referee = Referee {
-            tables: self.tables,
-        };
-        let out = referee.settle(check, a, mem);
-        self.tables = out.tables;
-        out.seen
-    }
-
     // What a line gets, by what it says: nothing gets 3, the first frame boots, each later one is an action.
     fn turn(&mut self, heard: Option<[u8; Action::BYTES]>, mem: &mut [u64]) -> Seen
         ensures { turned result self.new mem.new ≡ answered heard (log_of self.old mem.old) }
     {
         let Some(frame) = heard else {
-            return Seen::wordless(3);
+            return Seen::refused(Refusal::NotAFrame);
         };
         if !self.booted {
             self.boot(&frame);
-            return Seen::wordless(0);
+            return Seen::accepted();
         }
-        let a = Action::decode(&frame);
-        let check = a.number();
-        if !referee::moves_nothing(check, a.kind) {
-            return self.settle(check, a, mem);
-        }
-        referee::serve(
-            check,
-            a,
-            &self.tables.present,
-            &self.tables.running,
-            &self.tables.map,
-            &self.tables.tlb,
-            &self.tables.io_map,
-            &self.tables.io_tlb,
-            mem,
-        )
+        referee::take_in_place(&mut self.tables, Action::decode(&frame), mem)
     }
 
     // ── many lines ──
@@ -118,17 +92,17 @@ impl Replay {
 
     // ── before ──
     // 1 for lengths, 2 for tables that are not well formed. A line left open counts where the log ends.
-    fn own_number(self, last: bool, bytes: &[u8], memory: usize, room: usize) -> u8
-        ensures { result ≡ least (piece_rules (length (lines_in last (cut (held self.line) bytes.now))) self.tables memory room) }
+    fn check(self, last: bool, bytes: &[u8], memory: usize, room: usize) -> Result<(), Refusal>
+        ensures { numbered result ≡ least (piece_rules (length (lines_in last (cut (held self.line) bytes.now))) self.tables memory room) }
     {
         let lines = input::feeds(bytes) + usize::from(last & self.line.is_open(bytes));
         if (memory != Referee::WORDS) | (room / answers::BYTES < lines) {
-            return 1;
+            return Err(Refusal::Lengths);
         }
         if !order::wf(self.tables) {
-            return 2;
+            return Err(Refusal::Disorder);
         }
-        0
+        Ok(())
     }
 
     // ── calls ──
@@ -148,9 +122,8 @@ impl Replay {
         ensures { reached result mem.new out.new
             ≡ piece false self.line (log_of self mem.old) bytes.now out.old }
     {
-        let number = self.own_number(false, bytes, mem.len(), out.len());
-        if number != 0 {
-            return Fed::refused(number, self);
+        if let Err(refusal) = self.check(false, bytes, mem.len(), out.len()) {
+            return Fed::refused(refusal, self);
         }
         self.each_line(bytes, mem, out)
     }
@@ -160,20 +133,19 @@ impl Replay {
         ensures { reached result mem.new out.new
             ≡ piece true self.line (log_of self mem.old) bytes.now out.old }
     {
-        let number = self.own_number(true, bytes, mem.len(), out.len());
-        if number != 0 {
-            return Fed::refused(number, self);
+        if let Err(refusal) = self.check(true, bytes, mem.len(), out.len()) {
+            return Fed::refused(refusal, self);
         }
         self.each_line(bytes, mem, out).close(mem, out)
     }
 }
 
 impl Fed {
-    fn refused(number: u8, replay: Replay) -> Fed
-        ensures { result ≡ record { number = number; written = 0; replay = replay } }
+    fn refused(refusal: Refusal, replay: Replay) -> Fed
+        ensures { result ≡ record { number = number_of refusal; written = 0; replay = replay } }
     {
         Fed {
-            number,
+            number: u8::from(refusal),
             written: 0,
             replay,
         }

@@ -1,8 +1,8 @@
--- `lines::replay::Replay::own_number` meets its contract.
+-- `lines::replay::Replay::check` meets its contract.
 use Rattle.std.proofs.Common.{arith}
 use Rattle.text.proofs.TextLaws.{feeds-le}
 use Rattle.lines.proofs.Fronts.{own-1, own-2, own-0, one-at-most}
-use Rattle.lines.proofs.replay.Replay.own_number.Goals as goal
+use Rattle.lines.proofs.replay.Replay.check.Goals as goal
 
 pub overflow_add-lines : goal.overflow_add-lines
 overflow_add-lines c = omega (arith, feeds-le c.args.bytes.now, one-at-most _ c.from.ensures)
