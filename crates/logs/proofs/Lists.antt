@@ -23,7 +23,6 @@ use Rattle.text.specs.Walks.{heard}
 use Rattle.text.specs.Answers.{spelt, answer_bytes}
 use Rattle.text.proofs.AnswerLaws.{length_digits, length-spelt}
 use Rattle.lines.specs.Log.{Log, Turn, acts, turn, answer_line, after_lines, answers}
-use Rattle.lines.specs.Walks.{made}
 use Rattle.logs.specs.Secrets.{action_of, action_in, machine_of, line_at}
 
 -- ── one line ──
@@ -37,7 +36,7 @@ unfolding turn heard
 turn-action s l b = split (well_shaped l)
     (λ e. rw (e, b))
     (λ e. rw e (ap (λ (x : Bool). record { seen = wordless 3; log = record { booted = x; tables = s.tables; memory = s.memory } }) b
-    ∙ ap (made true) (frame_refused s.tables _ s.memory (sym zeros-refused) (λ (z : ◌≡◌ {A = ℕ} 3 0). omega arith))))
+    ∙ ap (λ (o : Outcome). record { seen = o.seen; log = record { booted = true; tables = o.tables; memory = o.memory } }) (frame_refused s.tables _ s.memory (sym zeros-refused) (λ (z : ◌≡◌ {A = ℕ} 3 0). omega arith))))
 
 -- a booted log stays booted
 still-booted : (s : Log) (l : List ℕ) → s.booted ≡ true → (turn s l).log.booted ≡ true
