@@ -36,25 +36,23 @@ impl Line {
     }
 
     #[tactic(auto, using(std::proofs::lemmas::Bool::Decides::nat_tests), unfolding(crate::specs::Walks::pushed, crate::specs::Line::most, crate::specs::Text::line_digits, numbers::specs::Sizes::frame_bytes))]
-    fn push(mut self, b: u8) -> Line
-        ensures { result ≡ pushed self b }
+    fn push(&mut self, b: u8)
+        ensures { self.new ≡ pushed self.old b }
     {
         if self.count < Line::MOST {
             self.text[self.count] = b;
             self.count += 1;
         }
-        self
     }
 
     // More bytes of it, none of them a feed.
-    pub fn add(self, more: &[u8]) -> Line
+    pub fn add(mut self, more: &[u8]) -> Line
         ensures { result ≡ added self more.now }
     {
-        let mut line = self;
         for b in more {
-            line = line.push(*b);
+            self.push(*b);
         }
-        line
+        self
     }
 
     // What it says as it stands.
