@@ -1,7 +1,7 @@
 -- The kind chooses the rule.
 use mathlib.Core.Path.{◌≡◌, refl, sym, ap, subst⁻¹, ◌∙◌}
-use mathlib.Core.Bool.{true, false}
-use mathlib.Core.List.{List}
+use mathlib.Core.Bool.{Bool, true, false}
+use mathlib.Core.List.{List, []}
 use Prim.Native.Nat.{ℕ, zero, suc, ◌+◌, ◌≤◌, ◌<◌}
 use native.Mathlib.Omega.{arith}
 use lib.Dec.{eqb}
@@ -18,7 +18,7 @@ use Rattle.numbers.proofs.Bools.{split, and_l, and_r}
 use Rattle.numbers.proofs.FrameLaws.{no_row, Checked, checked as frame-checked}
 use Rattle.numbers.proofs.FrameLaws.Checked.{fine, unknown, unused, out_of_range}
 use Rattle.tables.specs.declared.state.Tables.{Tables}
-use Rattle.rules.specs.Actions.{Op, refusals, effect, Outcome, acted}
+use Rattle.rules.specs.Actions.{Op, refusals, effect, does, Outcome, acted}
 use Rattle.rules.specs.Calls.{op_of, ◌then◌, action_rules, taken}
 use Rattle.access.specs.Lent.{Observed, observed, left, served, guest_op}
 use Rattle.access.proofs.Answers.{refused-by, kept}
@@ -98,6 +98,21 @@ guest-kinds P k keeps one two three four five =
     (λ z. split (eqb k 4) (λ t. at 4 four (eqb-true k 4 t))
     (λ w. at 5 five (omega (arith, eqb-false k 1 x, eqb-false k 2 y, eqb-false k 3 z, eqb-false k 4 w))))))
 
+-- tables of the parts that these look at; the others are empty
+abbrev lent : List Bool → List ℕ → List ℕ → List ℕ → List ℕ → List ℕ → Tables
+lent present running map tlb io_map io_tlb = record {
+  map = map;
+  tlb = tlb;
+  io_map = io_map;
+  io_tlb = io_tlb;
+  pairs = [];
+  holder = [];
+  dma = [];
+  region = [];
+  present = present;
+  running = running;
+}
+
 module _ (a : Action) (keeps : keeps_tables a.kind ≡ true) where
   -- what serves them is their own rule
   guest-op-is : guest_op a ≡ op_of a
@@ -105,6 +120,15 @@ module _ (a : Action) (keeps : keeps_tables a.kind ≡ true) where
 
   stays : (m : Tables) → effect m (op_of a) ≡ m
   stays m = guest-kinds (λ k. effect m (op_of (kinded k a)) ≡ m) a.kind keeps refl refl refl refl refl
+
+  -- and it looks at no other parts of the tables than these
+  served-lent : (m : Tables) (ws : List ℕ) {x : Observed} →
+      x ≡ served (lent m.present m.running m.map m.tlb m.io_map m.io_tlb) (guest_op a) ws → x ≡ served m (op_of a) ws
+  unfolding served does
+  served-lent m ws e =
+      let parts = lent m.present m.running m.map m.tlb m.io_map m.io_tlb in
+      e ∙ ap (λ (o : Op). served parts o ws) guest-op-is
+      ∙ guest-kinds (λ k. served parts (op_of (kinded k a)) ws ≡ served m (op_of (kinded k a)) ws) a.kind keeps refl refl refl refl refl
 
 -- ── an action that moves nothing: what serves it is what the call takes, and the tables stay ──
 module _ (m : Tables) (a : Action) (ws : List ℕ) where
