@@ -1,5 +1,5 @@
 // A frame of 16 bytes as an action by value; which fields each kind uses; refusals 3 and 4.
-#![tactic(auto, unfolding(crate::specs::Rules::least, crate::specs::Frames::big, crate::specs::Frames::decode, crate::specs::Frames::uses, crate::specs::Frames::frame_number))]
+#![tactic(auto, using(crate::proofs::Bools::and_is, crate::proofs::Bools::or_is, crate::proofs::Bools::or_asks), unfolding(crate::specs::Rules::least, crate::specs::Tests::isnt, crate::specs::Frames::big, crate::specs::Frames::decode, crate::specs::Frames::uses, crate::specs::Frames::stray, crate::specs::Frames::beyond, crate::specs::Frames::frame_number, crate::specs::Sizes::guests, crate::specs::Sizes::units, crate::specs::Sizes::accesses, crate::specs::Sizes::gpages, crate::specs::Sizes::page_words, crate::specs::Sizes::pages))]
 
 ghost use Rattle.std.specs.Prelude.{◌≡◌, ◌<◌, true, false, eqb, IfSome, IfNone};
 ghost use Rattle.numbers.specs.Frames.{big, decode, row_of, uses, stray, beyond, frame_number};
@@ -150,7 +150,7 @@ impl Action {
         }
     }
 
-    // A field that the row does not use is not zero.
+    // A field that the row does not use is not zero. Within a field `&`: both sides are at hand, and need no branch.
     fn stray(self, row: u16) -> bool
         ensures { result ≡ stray row self }
     {
