@@ -11,7 +11,7 @@ use crate::search::Want;
 use numbers::frames::Action;
 use numbers::{cells, entries};
 
-#[derive(Clone, Copy)]
+#[derive(Clone, Copy, Debug, PartialEq, Eq)]
 pub struct Tables {
     // stage-2 entries, and the CPUs' copies of them
     pub map: [u32; Tables::MAP_ROOM],
@@ -37,7 +37,7 @@ pub enum Side {
 }
 
 // The tables, or what a caller has of them, lent for reading.
-#[derive(Clone, Copy)]
+#[derive(Clone, Copy, Debug, PartialEq, Eq)]
 pub struct Lent<'a> {
     pub map: &'a [u32],
     pub tlb: &'a [u32],
