@@ -136,3 +136,14 @@ and_is a b = refl
 pub or_is : (a b : Bool) → (a || b) ≡ (a or b)
 unfolding ◌or◌
 or_is a b = refl
+
+-- and as choices: a test that stands first decides whether the other is asked
+pub and_asks : (a b : Bool) → (a and b) ≡ cond a b false
+unfolding ◌and◌
+and_asks true b = refl
+and_asks false b = refl
+
+pub or_asks : (a b : Bool) → (a or b) ≡ cond a true b
+unfolding ◌or◌
+or_asks true b = refl
+or_asks false b = refl

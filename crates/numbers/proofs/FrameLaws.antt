@@ -1,31 +1,18 @@
--- Frames: a word's bytes two by two; every action gets exactly one of 0, 3 and 4; the kinds of the table are those of 01's three ranges.
-use mathlib.Core.Path.{◌≡◌, refl, sym, ◌∙◌, ap}
+-- Frames: every action gets exactly one of 0, 3 and 4; the kinds of the table are those of 01's three ranges.
+use mathlib.Core.Path.{◌≡◌, refl, sym, ◌∙◌}
 use mathlib.Core.Bool.{Bool, true, false, beq}
-use mathlib.Core.List.{List}
-use Prim.Native.Nat.{ℕ, ◌+◌, ◌*◌, ◌≤◌, ◌<◌}
-use native.Mathlib.Omega.{arith}
+use Prim.Native.Nat.{ℕ, ◌≤◌, ◌<◌}
 use lib.Dec.{eqb, leb}
 use lib.ListN.{get_or}
 use borrow.Author.Tests.{leb-true}
 use Rattle.numbers.specs.Tests.{◌and◌, ◌or◌, isnt}
 use Rattle.numbers.specs.Rules.{least}
 use Rattle.numbers.specs.Search.{first, upto}
-use Rattle.numbers.specs.Frames.{big, kinds, row_of, stray, beyond, frame_rules, frame_number}
+use Rattle.numbers.specs.Frames.{kinds, row_of, stray, beyond, frame_rules, frame_number}
 use Rattle.numbers.specs.declared.frames.Action.{Action}
 use Rattle.numbers.proofs.Bools.{split, not-true, and_l, and_r, or_no, isnt-true, isnt-false}
 use Rattle.numbers.proofs.RulesLaws.{Applies, rising, least-lowest}
 use Rattle.numbers.proofs.SearchLaws.{upto-at}
-
--- ── eight bytes, two by two ──
-pub big-8 : (s : List ℕ) (i : ℕ) {a b c d : ℕ} → a ≡ big 2 s i → b ≡ big 2 s (i + 2) → c ≡ big 2 s (i + 4) → d ≡ big 2 s (i + 6) →
-    ((a * 65536 + b) * 65536 + c) * 65536 + d ≡ big 8 s i
-unfolding big
-big-8 s i a b c d =
-    let at : (k j : ℕ) → k ≡ j → get_or s k 0 ≡ get_or s j 0 = λ k j e. ap (λ (n : ℕ). get_or s n 0) e in
-    let b0 = at (i + 2 + 0) (i + 2) (omega arith) in let b1 = at (i + 2 + 1) (i + 3) (omega arith) in
-    let c0 = at (i + 4 + 0) (i + 4) (omega arith) in let c1 = at (i + 4 + 1) (i + 5) (omega arith) in
-    let d0 = at (i + 6 + 0) (i + 6) (omega arith) in let d1 = at (i + 6 + 1) (i + 7) (omega arith) in
-    omega arith
 
 -- ── 0, 3 or 4 ──
 pub data Checked (a : Action) : ℕ → Type 0 where

@@ -13,7 +13,7 @@ use lib.Seq.{drop-cons}
 use Rattle.std.specs.Prelude.{Option, IfSome, IfNone, is_some, ltb}
 use Rattle.std.specs.List.{position, position_or_len}
 use Rattle.numbers.specs.Search.{first, upto}
-use Rattle.numbers.proofs.Bools.{split, clash, not-true, and_l, and_r, and_i}
+use Rattle.numbers.proofs.Bools.{split, and_l, and_r, and_i}
 
 module _ {A : Type 0} where
   -- ── a step of the definition ──
@@ -93,10 +93,6 @@ module _ {A : Type 0} where
   passed-end p xs i h k q = q ∙ rw (drop_of_length-le xs h) (omega arith)
 
 -- ── each number below a bound ──
-pub upto-none : (f : ℕ → Bool) → upto 0 f ≡ true
-unfolding upto
-upto-none f = refl
-
 pub upto-at : (n : ℕ) (f : ℕ → Bool) → upto n f ≡ true → (k : ℕ) → k < n → f k ≡ true
 unfolding upto
 upto-at zero f e k h = absurd (omega arith)
@@ -108,10 +104,3 @@ pub upto-i : (n : ℕ) (f : ℕ → Bool) → ((k : ℕ) → k < n → f k ≡ t
 unfolding upto
 upto-i zero f h = refl
 upto-i (suc n) f h = and_i (h n (omega arith)) (upto-i n f (λ k l. h k (omega arith)))
-
-pub upto-more : (n : ℕ) (f : ℕ → Bool) → upto n f ≡ true → f n ≡ true → upto (n + 1) f ≡ true
-unfolding upto
-upto-more n f e h = rw add-one (and_i h e)
-
-pub upto-no : (n : ℕ) (f : ℕ → Bool) (k : ℕ) → k < n → f k ≡ false → upto n f ≡ false
-upto-no n f k h e = not-true _ (λ u. clash (upto-at n f u k h) e)

@@ -1,4 +1,6 @@
 // The page and the offset of a word address, guest or physical, and the word of a page and an offset.
+#![tactic(auto, unfolding(crate::specs::Addresses::page_of, crate::specs::Addresses::offset_of, crate::specs::Addresses::word_of, crate::specs::Sizes::page_words))]
+
 ghost use Rattle.std.specs.Prelude.{◌≡◌};
 ghost use Rattle.numbers.specs.Addresses.{page_of, offset_of, word_of};
 

@@ -1,4 +1,6 @@
 // Entries of maps and TLBs and shared pairs, each as one word; 0 is a free place.
+#![tactic(auto, unfolding(crate::specs::Entries::key_of, crate::specs::Entries::entry, crate::specs::Entries::access_in, crate::specs::Entries::page_in, crate::specs::Entries::key_in, crate::specs::Entries::gpage_in, crate::specs::Entries::guest_in, crate::specs::Entries::unit_in, crate::specs::Entries::tag_in, crate::specs::Entries::at_unit, crate::specs::Entries::readable, crate::specs::Entries::writable, crate::specs::Entries::pair, crate::specs::Entries::right_in, crate::specs::Entries::left_in, crate::specs::Entries::pair_tag_in, crate::specs::Sizes::access_span, crate::specs::Sizes::page_span, crate::specs::Sizes::gpage_span, crate::specs::Sizes::guest_span, crate::specs::Sizes::unit_span))]
+
 ghost use Rattle.std.specs.Prelude.{◌≡◌};
 ghost use Rattle.numbers.specs.Entries.{key_of, entry, at_unit, access_in, page_in, key_in, gpage_in, guest_in, unit_in, tag_in, pair, right_in, left_in, pair_tag_in, readable, writable};
 

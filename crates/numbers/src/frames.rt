@@ -1,12 +1,14 @@
 // A frame of 16 bytes as an action by value; which fields each kind uses; refusals 3 and 4.
+#![tactic(auto, using(crate::proofs::Bools::and_is, crate::proofs::Bools::or_is, crate::proofs::Bools::or_asks), unfolding(crate::specs::Rules::least, crate::specs::Tests::isnt, crate::specs::Frames::big, crate::specs::Frames::decode, crate::specs::Frames::uses, crate::specs::Frames::stray, crate::specs::Frames::beyond, crate::specs::Frames::frame_number, crate::specs::Sizes::guests, crate::specs::Sizes::units, crate::specs::Sizes::accesses, crate::specs::Sizes::gpages, crate::specs::Sizes::page_words, crate::specs::Sizes::pages))]
+
 ghost use Rattle.std.specs.Prelude.{◌≡◌, ◌<◌, true, false, eqb, IfSome, IfNone};
-ghost use Rattle.numbers.specs.Frames.{big, decode, row_of, stray, beyond, frame_number};
+ghost use Rattle.numbers.specs.Frames.{big, decode, row_of, uses, stray, beyond, frame_number};
 ghost use Rattle.numbers.specs.Refusals.{numbered};
 
 use crate::cells;
 use crate::refusals::Refusal;
 
-#[derive(Clone, Copy)]
+#[derive(Clone, Copy, Debug, PartialEq, Eq)]
 pub struct Action {
     pub kind: u8,
     pub guest: u8,
@@ -88,6 +90,14 @@ pub fn word(bytes: &[u8], at: u8) -> u64
     ((a * 65536 + b) * 65536 + c) * 65536 + d
 }
 
+// A row's flag.
+fn uses(row: u16, flag: u16) -> bool
+    requires { 0 < flag }
+    ensures { result ≡ uses row flag }
+{
+    row / flag % 2 == 1
+}
+
 // The row of a kind, where it is known.
 fn row_of(kind: u8) -> Option<u16>
     ensures some { IfSome result (λ row. (row ≡ row_of kind) × (eqb (row_of kind) 0 ≡ false)) }
@@ -140,34 +150,32 @@ impl Action {
         }
     }
 
-    // A field that the row does not use is not zero.
+    // A field that the row does not use is not zero. Within a field `&`: both sides are at hand, and need no branch.
     fn stray(self, row: u16) -> bool
         ensures { result ≡ stray row self }
     {
-        (!(row / GUEST % 2 == 1) & (self.guest != 0))
-            | ((!((row / UNIT % 2 == 1) | (row / RIGHT % 2 == 1)) & (self.second != 0))
-                | ((!(row / ACCESS % 2 == 1) & (self.access != 0))
-                    | ((!((row / ADDRESS % 2 == 1) | (row / GPAGE % 2 == 1)) & (self.address != 0))
-                        | ((!(row / PAGE % 2 == 1) & (self.page != 0))
-                            | (!(row / WORD % 2 == 1) & (self.word != 0))))))
+        !uses(row, GUEST) & (self.guest != 0)
+            || !(uses(row, UNIT) | uses(row, RIGHT)) & (self.second != 0)
+            || !uses(row, ACCESS) & (self.access != 0)
+            || !(uses(row, ADDRESS) | uses(row, GPAGE)) & (self.address != 0)
+            || !uses(row, PAGE) & (self.page != 0)
+            || !uses(row, WORD) & (self.word != 0)
     }
 
     // A number that the row uses is out of range.
     fn beyond(self, row: u16) -> bool
         ensures { result ≡ beyond row self }
     {
-        ((row / GUEST % 2 == 1) & (Action::GUESTS <= self.guest))
-            | (((row / UNIT % 2 == 1) & (Action::UNITS <= self.second))
-                | (((row / RIGHT % 2 == 1) & (Action::GUESTS <= self.second))
-                    | (((row / ACCESS % 2 == 1) & (Action::ACCESSES <= self.access))
-                        | (((row / ADDRESS % 2 == 1)
-                            & (Action::GPAGES * Action::PAGE_WORDS <= self.address))
-                            | (((row / GPAGE % 2 == 1) & (Action::GPAGES <= self.address))
-                                | ((row / PAGE % 2 == 1) & (Action::PAGES <= self.page)))))))
+        uses(row, GUEST) & (Action::GUESTS <= self.guest)
+            || uses(row, UNIT) & (Action::UNITS <= self.second)
+            || uses(row, RIGHT) & (Action::GUESTS <= self.second)
+            || uses(row, ACCESS) & (Action::ACCESSES <= self.access)
+            || uses(row, ADDRESS) & (Action::GPAGES * Action::PAGE_WORDS <= self.address)
+            || uses(row, GPAGE) & (Action::GPAGES <= self.address)
+            || uses(row, PAGE) & (Action::PAGES <= self.page)
     }
 
     // The frame check: an unknown kind and an unused field that is not zero are no frame; then numbers out of range.
-    #[tactic(auto, unfolding(crate::specs::Frames::frame_number, crate::specs::Rules::least))]
     pub fn check(self) -> Result<(), Refusal>
         ensures { numbered result ≡ frame_number self }
     {

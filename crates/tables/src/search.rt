@@ -1,4 +1,6 @@
 // Tables of words, lent as slices of any length: one search, and what stands on it. A free place is 0.
+#![tactic(auto, using(numbers::proofs::Bools::and_asks, numbers::proofs::Bools::or_asks), unfolding(numbers::specs::Tests::isnt, crate::specs::Wants::has_key, crate::specs::Wants::of_guest, crate::specs::Wants::of_gpage, crate::specs::Wants::to_page, crate::specs::Wants::ends_at, crate::specs::Wants::joins, crate::specs::Steps::wipe_from))]
+
 ghost use Rattle.std.specs.Prelude.{◌≡◌, ◌≤◌, ◌<◌, length, IfSome, IfNone};
 ghost use Rattle.std.specs.List.{position};
 ghost use Rattle.numbers.specs.Search.{first};
@@ -33,7 +35,7 @@ pub enum Want {
 fn ends_at(word: u32, guest: u8) -> bool
     ensures { result ≡ ends_at guest word }
 {
-    (guest == entries::left_in(word)) | (guest == entries::right_in(word))
+    guest == entries::left_in(word) || guest == entries::right_in(word)
 }
 
 fn joins(word: u32, left: u8, right: u8) -> bool
@@ -41,7 +43,7 @@ fn joins(word: u32, left: u8, right: u8) -> bool
 {
     let l = entries::left_in(word);
     let r = entries::right_in(word);
-    ((left == l) & (right == r)) | ((left == r) & (right == l))
+    left == l && right == r || left == r && right == l
 }
 
 fn meets(word: u32, want: Want) -> bool
@@ -49,13 +51,13 @@ fn meets(word: u32, want: Want) -> bool
 {
     match want {
         Want::Key(k) => k == entries::key_in(word),
-        Want::Everywhere(g, v) => (g == entries::guest_in(word)) & (v == entries::gpage_in(word)),
+        Want::Everywhere(g, v) => g == entries::guest_in(word) && v == entries::gpage_in(word),
         Want::Page(p) => p == entries::page_in(word),
         Want::Guest(g) => g == entries::guest_in(word),
-        Want::Maps(g, p) => (g == entries::guest_in(word)) & (p == entries::page_in(word)),
-        Want::Pair(l, r, p) => (p == entries::page_in(word)) & joins(word, l, r),
+        Want::Maps(g, p) => g == entries::guest_in(word) && p == entries::page_in(word),
+        Want::Pair(l, r, p) => p == entries::page_in(word) && joins(word, l, r),
         Want::End(g) => ends_at(word, g),
-        Want::Shared(g, p) => (p == entries::page_in(word)) & ends_at(word, g),
+        Want::Shared(g, p) => p == entries::page_in(word) && ends_at(word, g),
     }
 }
 
@@ -63,7 +65,7 @@ fn meets(word: u32, want: Want) -> bool
 pub fn hits(word: u32, want: Want) -> bool
     ensures { result ≡ hit W (meets want) word }
 {
-    (word != 0) & meets(word, want)
+    word != 0 && meets(word, want)
 }
 
 // ── searches ──

@@ -1,5 +1,7 @@
 // The tables: one flat struct of number arrays, by value. Who holds or runs is a number too: nobody, the hypervisor, or a guest
 // counted from `Tables::GUEST` on.
+#![tactic(auto, using(numbers::proofs::Bools::and_asks, numbers::proofs::Bools::or_asks), unfolding(numbers::specs::Tests::isnt, crate::specs::State::reach, crate::specs::State::empty, crate::specs::State::bare, numbers::specs::Sizes::map_room, numbers::specs::Sizes::tlb_room, numbers::specs::Sizes::pair_room, numbers::specs::Sizes::pages, numbers::specs::Sizes::guests, numbers::specs::Sizes::units))]
+
 ghost use Rattle.std.specs.Prelude.{◌≡◌, true, false, eqb, IfSome, IfNone};
 ghost use Rattle.tables.specs.State.{guest, a_guest, guest_of, lookup, map_of, tlb_of, held_on, may_reach, page_is_quiescent, iommu_page_is_quiescent, empty, boot};
 ghost use Rattle.tables.specs.Lent.{tables_of};
@@ -9,7 +11,7 @@ use crate::search::Want;
 use numbers::frames::Action;
 use numbers::{cells, entries};
 
-#[derive(Clone, Copy)]
+#[derive(Clone, Copy, Debug, PartialEq, Eq)]
 pub struct Tables {
     // stage-2 entries, and the CPUs' copies of them
     pub map: [u32; Tables::MAP_ROOM],
@@ -35,7 +37,7 @@ pub enum Side {
 }
 
 // The tables, or what a caller has of them, lent for reading.
-#[derive(Clone, Copy)]
+#[derive(Clone, Copy, Debug, PartialEq, Eq)]
 pub struct Lent<'a> {
     pub map: &'a [u32],
     pub tlb: &'a [u32],
@@ -111,8 +113,8 @@ impl<'a> Lent<'a> {
     {
         let own = is_guest(cells::get_or(self.held_on(side), page as usize, 0), guest);
         match side {
-            Side::Cpu => own | search::has(self.pairs, Want::Shared(guest, page)),
-            Side::Iommu => own | cells::get_or(self.region, page as usize, false),
+            Side::Cpu => own || search::has(self.pairs, Want::Shared(guest, page)),
+            Side::Iommu => own || cells::get_or(self.region, page as usize, false),
         }
     }
 
@@ -122,7 +124,7 @@ impl<'a> Lent<'a> {
         ensures { result ≡ iommu_page_is_quiescent (map_of side (tables_of self.entry)) (tlb_of side (tables_of self.entry)) page }
     {
         !search::has(self.map_of(side), Want::Page(page))
-            & !search::has(self.tlb_of(side), Want::Page(page))
+            && !search::has(self.tlb_of(side), Want::Page(page))
     }
 
     // No IOMMU entry leads to the page.
@@ -136,7 +138,7 @@ impl<'a> Lent<'a> {
     pub fn page_is_quiescent(self, page: u16) -> bool
         ensures { result ≡ page_is_quiescent self.entry.map.now self.entry.tlb.now self.entry.pairs.now page }
     {
-        self.no_entry_leads(Side::Cpu, page) & !search::has(self.pairs, Want::Page(page))
+        self.no_entry_leads(Side::Cpu, page) && !search::has(self.pairs, Want::Page(page))
     }
 }
 

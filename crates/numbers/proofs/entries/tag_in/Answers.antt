@@ -1,8 +1,0 @@
--- `numbers::entries::tag_in` meets its contract.
-use Rattle.numbers.specs.Entries.{tag_in}
-use Rattle.numbers.specs.Sizes.{gpage_span, guest_span, unit_span}
-use Rattle.numbers.proofs.entries.tag_in.Goals as goal
-
-pub returns : goal.returns
-unfolding tag_in gpage_span guest_span unit_span
-returns c = rw c.key_in.ensures
