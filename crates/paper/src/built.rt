@@ -23,7 +23,7 @@ fn held() -> Tables {
     t
 }
 
-// Case 6: guest 3 present, 1 CPU holder of page 5, pairs 1-2 and 2-3 on it, 2 maps it.
+// Guest 2, which maps the page, would be left with a pair on it, with guest 3: refused all the same.
 pub fn second_pair(rt: &impl Print) -> io::Result<()> {
     println!(rt; "6: 1 holds page 5, pairs 1-2 and 2-3 on it, 2 maps it: unshare 1-2, and as 2-1")?;
     let mut t = held();
@@ -31,14 +31,11 @@ pub fn second_pair(rt: &impl Print) -> io::Result<()> {
     t.pairs[0] = entries::pair(1, 2, 5, 0);
     t.pairs[1] = entries::pair(2, 3, 5, 0);
     t.map[0] = entries::entry(0, 2, 2, 5, 1);
-    show::acts(
-        rt,
-        t,
-        &[
-            0x1501020000000005_0000000000000000, // UnsharePage
-            0x1502010000000005_0000000000000000, // UnsharePage
-        ],
-    )
+    let frames = [
+        0x1501020000000005_0000000000000000, // UnsharePage
+        0x1502010000000005_0000000000000000, // UnsharePage
+    ];
+    show::acts(rt, t, &frames)
 }
 
 // A pair that stands reversed counts as the same.
@@ -46,14 +43,11 @@ pub fn reversed_pair(rt: &impl Print) -> io::Result<()> {
     println!(rt; "a pair stands as 2-1, 1 holds the page: share 1 with 2, unshare 1-2")?;
     let mut t = held();
     t.pairs[3] = entries::pair(2, 1, 5, 0);
-    show::acts(
-        rt,
-        t,
-        &[
-            0x1401020000000005_0000000000000000, // SharePage
-            0x1501020000000005_0000000000000000, // UnsharePage
-        ],
-    )
+    let frames = [
+        0x1401020000000005_0000000000000000, // SharePage
+        0x1501020000000005_0000000000000000, // UnsharePage
+    ];
+    show::acts(rt, t, &frames)
 }
 
 fn by_itself(rt: &impl Print, old: Tables, out: Out) -> io::Result<()> {

@@ -1,4 +1,4 @@
-// Lists of frames: 01's example after its boot line, and three frames that are refused; the same decoded; then lists refused whole.
+// Lists of frames: six that are accepted and three that are refused; the same decoded; then lists refused whole.
 use crate::show::{Answer, Changes, WORDS};
 use calls::referee::Referee;
 use lists::Ran;
