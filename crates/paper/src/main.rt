@@ -9,10 +9,9 @@ mod many;
 mod show;
 
 fn main(rt: HostRuntime) -> io::Result<()> {
-    let mut mem = [0u64; show::WORDS];
-    built::second_pair(&rt, &mut mem)?;
-    built::reversed_pair(&rt, &mut mem)?;
-    built::cached_alone(&rt, &mut mem)?;
+    built::second_pair(&rt)?;
+    built::reversed_pair(&rt)?;
+    built::cached_alone(&rt)?;
     built::too_short(&rt)?;
     many::example(&rt)?;
     many::decoded(&rt)?;
