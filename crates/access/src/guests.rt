@@ -1,5 +1,5 @@
 // Kinds 01 to 05 on lent tables, which they leave as they are: no table is moved for them.
-#![tactic(auto, using(numbers::proofs::Bools::not_is, numbers::proofs::Bools::or_is, crate::proofs::Answers::refuses_served), unfolding(numbers::specs::Rules::least, numbers::specs::Sizes::guests, numbers::specs::Sizes::units, numbers::specs::Sizes::gpages, numbers::specs::Sizes::page_words, crate::specs::Lent::number, crate::specs::Lent::served, rules::specs::Actions::next, rules::specs::Actions::does))]
+#![tactic(auto, using(numbers::proofs::Bools::not_is, numbers::proofs::Bools::or_asks, crate::proofs::Answers::refuses_served), unfolding(numbers::specs::Rules::least, numbers::specs::Sizes::guests, numbers::specs::Sizes::units, numbers::specs::Sizes::gpages, numbers::specs::Sizes::page_words, crate::specs::Lent::number, crate::specs::Lent::served, rules::specs::Actions::next, rules::specs::Actions::does))]
 
 ghost use Rattle.std.specs.Prelude.{◌≡◌, cond, List, ℕ, IfOk};
 ghost use Rattle.numbers.specs.Answers.{seen_of};
@@ -57,7 +57,7 @@ fn access(t: Lent, side: Side, ask: Ask, writes: bool) -> Result<usize, Refusal>
     let u = ask.unit;
     let a = ask.address;
     let last = Action::GPAGES * Action::PAGE_WORDS;
-    Refusal::OutOfRange.when((Action::GUESTS <= g) | ((Action::UNITS <= u) | (last <= a)))?;
+    Refusal::OutOfRange.when(Action::GUESTS <= g || Action::UNITS <= u || last <= a)?;
     Refusal::AbsentGuest.when(parts::absent(t.present, g))?;
     Refusal::Elsewhere.when(elsewhere(t, side, g, u))?;
     let page = addresses::page_of(a);
@@ -89,7 +89,7 @@ pub fn write(t: Lent, side: Side, ask: Ask, word: u64, mem: &mut [u64]) -> Resul
 pub fn hyper_call(t: Lent, g: u8, u: u8, word: u64) -> Result<u64, Refusal>
     ensures { (ws : List ℕ) → left (seen_of result) ws ≡ served (tables_of t.entry) (HyperCall g u word) ws }
 {
-    Refusal::OutOfRange.when((Action::GUESTS <= g) | (Action::UNITS <= u))?;
+    Refusal::OutOfRange.when(Action::GUESTS <= g || Action::UNITS <= u)?;
     Refusal::AbsentGuest.when(parts::absent(t.present, g))?;
     Refusal::Elsewhere.when(elsewhere(t, Side::Cpu, g, u))?;
     Ok(0)

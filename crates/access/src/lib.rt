@@ -1,4 +1,4 @@
-// Accesses: kinds 01 to 05 on lent parts of the tables, and who is named in them.
+// Accesses: kinds 01 to 05 on lent tables, and who is named in them.
 #![tactic(auto)]
 
 pub mod guests;

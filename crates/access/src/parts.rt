@@ -1,5 +1,5 @@
-// Who is named in lent parts of the tables.
-#![tactic(auto, using(numbers::proofs::Bools::not_is, numbers::proofs::Bools::and_is, crate::proofs::PartLaws::named_any), unfolding(rules::specs::Actions::another))]
+// Who is named in parts of the tables.
+#![tactic(auto, using(numbers::proofs::Bools::not_is, numbers::proofs::Bools::and_asks, crate::proofs::PartLaws::named_any), unfolding(rules::specs::Actions::another))]
 
 ghost use Rattle.std.specs.Prelude.{◌≡◌, false, eqb, get_or};
 ghost use Rattle.numbers.specs.Tests.{isnt};
@@ -36,7 +36,7 @@ pub fn another(held: &[u8], g: u8, p: u16) -> bool
     ensures { result ≡ another g (get_or held.now p 0) }
 {
     let h = cells::get_or(held, p as usize, 0);
-    (Tables::GUEST <= h) & !state::is_guest(h, g)
+    Tables::GUEST <= h && !state::is_guest(h, g)
 }
 
 // Some place of a list of holders names the guest.

@@ -85,7 +85,7 @@ none-of-them k b h =
     (λ x y. omega (arith, past guests 12 k 0x10 x later))
     (λ x y. omega (arith, past hypervisor 6 k 0x20 x h))
 
--- ── kinds 01 to 05 leave the tables as they are, and look at the lent parts alone ──
+-- ── kinds 01 to 05 leave the tables as they are, and look at these parts of them alone ──
 guest-kinds : (P : ℕ → Type 0) (k : ℕ) → keeps_tables k ≡ true → P 1 → P 2 → P 3 → P 4 → P 5 → P k
 unfolding keeps_tables
 guest-kinds P k keeps one two three four five =

@@ -60,7 +60,7 @@ pub record NumberedList (odd : Bool) (f : ℕ → Action) (n : ℕ) (s : Machine
       (record { seen = (answer f s i).seen; tables = (answer f s i).tables }) (answer f s i).memory
 
 pub record Demand1 : Type 0 where
-  -- each of the 23 methods, any tables
+  -- each of the 23 kinds by its method, any tables
   pub method : (m : Tables) (o : Op) (ws : List ℕ) (r : Out) (vs : List ℕ) → after r vs ≡ acted m o ws → Numbered (refusals m o) m ws r vs
   pub take : (m : Tables) (a : Action) (ws : List ℕ) (r : Out) (vs : List ℕ) → after r vs ≡ taken m a ws → Numbered (action_rules m a) m ws r vs
   pub act : (m : Tables) (bytes ws : List ℕ) (r : Out) (vs : List ℕ) → after r vs ≡ act m bytes ws → Numbered (act_rules m bytes ws) m ws r vs

@@ -1,4 +1,4 @@
--- One line: what it gets, by what it says, by what of it is kept, and on lent parts of the tables.
+-- One line: what it gets, by what it says, and by what of it is kept.
 use mathlib.Core.Path.{◌≡◌, refl, sym, ap, ◌∙◌}
 use mathlib.Core.Bool.{true, false}
 use mathlib.Core.List.{List}

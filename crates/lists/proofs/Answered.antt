@@ -47,7 +47,7 @@ module _ (m : Tables) (o : Op) (ws : List ℕ) (r : Out) (vs : List ℕ) where
             );
       }
 
-  -- each of the 23 methods
+  -- each of the 23 kinds, by its method
   pub method-answered : after r vs ≡ acted m o ws → Answered (refusals m o) m ws r vs
   method-answered e = answered (refusals m o) (up-to-15 m o) (lowest m o) e
 

@@ -1,5 +1,5 @@
 // Guests and CPUs: kinds 10, 11, 18 and 19.
-#![tactic(auto, using(numbers::proofs::Bools::not_is, numbers::proofs::Bools::and_is, numbers::proofs::Bools::or_is), unfolding(numbers::specs::Rules::least, access::specs::Lent::number, numbers::specs::Sizes::guests, numbers::specs::Sizes::units))]
+#![tactic(auto, using(numbers::proofs::Bools::not_is, numbers::proofs::Bools::and_asks, numbers::proofs::Bools::or_asks), unfolding(numbers::specs::Rules::least, access::specs::Lent::number, numbers::specs::Sizes::guests, numbers::specs::Sizes::units))]
 
 ghost use Rattle.std.specs.Prelude.{◌≡◌};
 ghost use Rattle.numbers.specs.Refusals.{numbered};
@@ -30,12 +30,13 @@ fn in_use(t: Lent, g: u8) -> bool
     ensures { result ≡ in_use (tables_of t.entry) g }
 {
     parts::named(t.holder, g)
-        | (parts::named(t.dma, g)
-            | (search::has(t.map, Want::Guest(g))
-                | (search::has(t.io_map, Want::Guest(g))
-                    | (search::has(t.tlb, Want::Guest(g))
-                        | (search::has(t.io_tlb, Want::Guest(g))
-                            | (search::has(t.pairs, Want::End(g)) | parts::named(t.running, g)))))))
+        || parts::named(t.dma, g)
+        || search::has(t.map, Want::Guest(g))
+        || search::has(t.io_map, Want::Guest(g))
+        || search::has(t.tlb, Want::Guest(g))
+        || search::has(t.io_tlb, Want::Guest(g))
+        || search::has(t.pairs, Want::End(g))
+        || parts::named(t.running, g)
 }
 
 // 11
@@ -51,7 +52,7 @@ pub fn remove_vm(t: Lent, g: u8) -> Result<(), Refusal>
 pub fn context_switch(t: Lent, g: u8, u: u8) -> Result<(), Refusal>
     ensures { numbered result ≡ number (tables_of t.entry) (ContextSwitch g u) }
 {
-    Refusal::OutOfRange.when((Action::GUESTS <= g) | (Action::UNITS <= u))?;
+    Refusal::OutOfRange.when(Action::GUESTS <= g || Action::UNITS <= u)?;
     Refusal::AbsentGuest.when(parts::absent(t.present, g))
 }
 

@@ -1,8 +1,11 @@
 // Maps and TLBs, of CPUs and of the IOMMU alike: kinds 16, 17, 1a, 1b and 22 to 25.
-#![tactic(auto, using(numbers::proofs::Bools::not_is, numbers::proofs::Bools::and_is, numbers::proofs::Bools::or_is), unfolding(numbers::specs::Rules::least, access::specs::Lent::number, numbers::specs::Sizes::guests, numbers::specs::Sizes::gpages, numbers::specs::Sizes::pages, numbers::specs::Sizes::accesses, numbers::specs::Sizes::units))]
+#![tactic(auto, using(numbers::proofs::Bools::not_is, numbers::proofs::Bools::and_asks, numbers::proofs::Bools::or_asks), unfolding(numbers::specs::Rules::least, access::specs::Lent::number, numbers::specs::Sizes::guests, numbers::specs::Sizes::gpages, numbers::specs::Sizes::pages, numbers::specs::Sizes::accesses, numbers::specs::Sizes::units))]
 
 ghost use Rattle.std.specs.Prelude.{◌≡◌, IfOk};
+ghost use Rattle.numbers.specs.Frames.{off};
 ghost use Rattle.numbers.specs.Refusals.{numbered};
+ghost use Rattle.numbers.specs.Sizes.{guests, pages, gpages, accesses};
+ghost use Rattle.numbers.specs.Tests.{◌or◌};
 ghost use Rattle.numbers.specs.Search.{first};
 ghost use Rattle.numbers.specs.Entries.{key_of, at_unit};
 ghost use Rattle.tables.specs.Lent.{tables_of};
@@ -20,14 +23,19 @@ use numbers::refusals::Refusal;
 use tables::search::Want;
 use tables::state::{Lent, Side};
 
+// 4, of an entry.
+fn far(g: u8, v: u16, p: u16, x: u8) -> bool
+    ensures { result ≡ (off g guests or off v gpages or off p pages or off x accesses) }
+{
+    Action::GUESTS <= g || Action::GPAGES <= v || Action::PAGES <= p || Action::ACCESSES <= x
+}
+
 // 16, 22: where the entry goes.
 pub fn map(t: Lent, side: Side, g: u8, v: u16, p: u16, x: u8) -> Result<usize, Refusal>
     ensures number { numbered result ≡ number (tables_of t.entry) (Map side g v p x) }
     ensures at { IfOk result (λ at. at ≡ seat W (has_key (key_of 0 g v)) (map_of side (tables_of t.entry))) }
 {
-    let far = (Action::GUESTS <= g)
-        | ((Action::GPAGES <= v) | ((Action::PAGES <= p) | (Action::ACCESSES <= x)));
-    Refusal::OutOfRange.when(far)?;
+    Refusal::OutOfRange.when(far(g, v, p, x))?;
     Refusal::AbsentGuest.when(parts::absent(t.present, g))?;
     Refusal::NotHeld.when(!t.may_reach(side, g, p))?;
     places::seated(t.map_of(side), entries::key_of(0, g, v))
@@ -38,7 +46,7 @@ pub fn unmap(t: Lent, side: Side, g: u8, v: u16) -> Result<usize, Refusal>
     ensures number { numbered result ≡ number (tables_of t.entry) (Unmap side g v) }
     ensures at { IfOk result (λ at. at ≡ first (hit W (has_key (key_of 0 g v))) (map_of side (tables_of t.entry))) }
 {
-    Refusal::OutOfRange.when((Action::GUESTS <= g) | (Action::GPAGES <= v))?;
+    Refusal::OutOfRange.when(Action::GUESTS <= g || Action::GPAGES <= v)?;
     Refusal::AbsentGuest.when(parts::absent(t.present, g))?;
     places::standing(t.map_of(side), Want::Key(entries::key_of(0, g, v)))
 }
@@ -56,7 +64,7 @@ pub fn fill(t: Lent, side: Side, g: u8, u: u8, v: u16) -> Result<Row, Refusal>
     ensures row { IfOk result (λ row. (row.at ≡ seat W (has_key (key_of u g v)) (tlb_of side (tables_of t.entry)))
         × (row.word ≡ at_unit u (find W (has_key (key_of 0 g v)) (map_of side (tables_of t.entry))))) }
 {
-    let far = (Action::GUESTS <= g) | ((Action::UNITS <= u) | (Action::GPAGES <= v));
+    let far = Action::GUESTS <= g || Action::UNITS <= u || Action::GPAGES <= v;
     Refusal::OutOfRange.when(far)?;
     Refusal::AbsentGuest.when(parts::absent(t.present, g))?;
     let home = places::home(t.map_of(side), entries::key_of(0, g, v))?;
@@ -70,7 +78,7 @@ pub fn drop(t: Lent, side: Side, g: u8, u: u8, v: u16) -> Result<usize, Refusal>
     ensures number { numbered result ≡ number (tables_of t.entry) (Drop side g u v) }
     ensures at { IfOk result (λ at. at ≡ first (hit W (has_key (key_of u g v))) (tlb_of side (tables_of t.entry))) }
 {
-    let far = (Action::GUESTS <= g) | ((Action::UNITS <= u) | (Action::GPAGES <= v));
+    let far = Action::GUESTS <= g || Action::UNITS <= u || Action::GPAGES <= v;
     Refusal::OutOfRange.when(far)?;
     Refusal::AbsentGuest.when(parts::absent(t.present, g))?;
     places::standing(t.tlb_of(side), Want::Key(entries::key_of(u, g, v)))
