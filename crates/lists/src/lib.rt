@@ -48,7 +48,7 @@ fn handle(
 
 // ── before the first action ──
 // 1 for lengths, 2 for tables that are not well formed: once for a list, since every action keeps good order.
-#[tactic(auto, using(numbers::proofs::Bools::not_is, numbers::proofs::Bools::or_asks), unfolding(numbers::specs::Rules::least, numbers::specs::Sizes::pages, numbers::specs::Sizes::page_words))]
+#[tactic(auto, using(numbers::proofs::Bools::not_is, numbers::proofs::Bools::or_is), unfolding(numbers::specs::Rules::least, numbers::specs::Sizes::pages, numbers::specs::Sizes::page_words))]
 fn check(
     referee: Referee,
     odd: bool,
@@ -59,8 +59,8 @@ fn check(
 ) -> Result<(), Refusal>
     ensures { numbered result ≡ least (own_rules odd n referee.tables memory numbers words) }
 {
-    let short = memory != Referee::WORDS || numbers < n || words < n;
-    Refusal::Lengths.when(odd || short)?;
+    let short = (memory != Referee::WORDS) | ((numbers < n) | (words < n));
+    Refusal::Lengths.when(odd | short)?;
     Refusal::Disorder.when(!order::wf(referee.tables))
 }
 
