@@ -69,7 +69,7 @@ pub fn guest_of(who: u8) -> Option<u8>
 
 // ── translation ──
 // A TLB hit comes before the map.
-pub fn lookup<'a>(map: &'a [u32], tlb: &'a [u32], unit: u8, guest: u8, gpage: u16) -> Option<u32>
+pub fn lookup(map: &[u32], tlb: &[u32], unit: u8, guest: u8, gpage: u16) -> Option<u32>
     ensures { result ≡ lookup map.now tlb.now unit guest gpage }
 {
     match search::find(tlb, entries::key_of(unit, guest, gpage)) {
