@@ -1,12 +1,11 @@
 // A list of actions, one after the other: as frames in lent bytes, and as decoded actions.
 #![tactic(auto)]
 
-ghost use Rattle.std.specs.Prelude.{◌≡◌, ◌*◌, ◌≤◌, ◌<◌, length};
-ghost use Rattle.numbers.specs.Refusals.{numbered, number_of};
+ghost use Rattle.std.specs.Prelude.{◌≡◌, ◌<◌};
+ghost use Rattle.numbers.specs.Refusals.{numbered};
 ghost use Rattle.numbers.specs.Rules.{least};
-ghost use Rattle.numbers.specs.Sizes.{frame_bytes};
-ghost use Rattle.rules.specs.Calls.{frame_at, run, run_actions};
-ghost use Rattle.lists.specs.Lists.{handled, went, own_rules, begun, ended};
+ghost use Rattle.rules.specs.Calls.{run, run_actions};
+ghost use Rattle.lists.specs.Lists.{handled, own_rules, begun, ended};
 
 use calls::referee;
 use calls::referee::Referee;

@@ -1,6 +1,5 @@
 // Answer lines, written as digits.
-ghost use Rattle.std.specs.Prelude.{◌≡◌, ◌+◌, ◌≤◌, ◌<◌, length};
-ghost use Rattle.std.proofs.lemmas.List.Edits.{sets};
+ghost use Rattle.std.specs.Prelude.{◌≡◌, ◌<◌, length};
 ghost use Rattle.text.specs.Text.{glyph, digits};
 ghost use Rattle.text.specs.Answers.{spelt, placed};
 
