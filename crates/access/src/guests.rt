@@ -32,7 +32,7 @@ fn elsewhere(t: Lent, side: Side, g: u8, u: u8) -> bool
     ensures { result ≡ elsewhere side (tables_of t.entry) u g }
 {
     match side {
-        Side::Cpu => !parts::runs(t.running, g, u),
+        Side::Cpu => !state::is_guest(cells::get_or(t.running, u as usize, 0), g),
         Side::Iommu => false,
     }
 }

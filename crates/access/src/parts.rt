@@ -1,6 +1,4 @@
 // Who is named in parts of the tables.
-#![tactic(auto, using(numbers::proofs::Bools::not_is, numbers::proofs::Bools::and_asks, crate::proofs::PartLaws::named_any), unfolding(rules::specs::Actions::another))]
-
 ghost use Rattle.std.specs.Prelude.{◌≡◌, false, eqb, get_or};
 ghost use Rattle.numbers.specs.Tests.{isnt};
 ghost use Rattle.tables.specs.State.{guest};
@@ -11,17 +9,11 @@ use numbers::cells;
 use tables::state;
 use tables::state::Tables;
 
+#[tactic(auto, using(numbers::proofs::Bools::not_is))]
 pub fn absent(present: &[bool], g: u8) -> bool
     ensures { result ≡ isnt (get_or present.now g false) }
 {
     !cells::get_or(present, g as usize, false)
-}
-
-// The CPU runs the guest.
-pub fn runs(running: &[u8], g: u8, u: u8) -> bool
-    ensures { result ≡ eqb (get_or running.now u 0) (guest g) }
-{
-    state::is_guest(cells::get_or(running, u as usize, 0), g)
 }
 
 // The guest holds the page.
@@ -32,6 +24,7 @@ pub fn holds(held: &[u8], g: u8, p: u16) -> bool
 }
 
 // A guest holds the page, and it is another one.
+#[tactic(auto, using(numbers::proofs::Bools::not_is, numbers::proofs::Bools::and_asks), unfolding(rules::specs::Actions::another))]
 pub fn another(held: &[u8], g: u8, p: u16) -> bool
     ensures { result ≡ another g (get_or held.now p 0) }
 {
@@ -40,12 +33,14 @@ pub fn another(held: &[u8], g: u8, p: u16) -> bool
 }
 
 // Some place of a list of holders names the guest.
+#[tactic(auto, using(crate::proofs::PartLaws::named_any))]
 pub fn named(list: &[u8], g: u8) -> bool
     ensures { result ≡ named (guest g) list.now }
 {
     any_is(list, g)
 }
 
+// The same in the library's word, as the check sees what a chain answers.
 fn any_is(list: &[u8], g: u8) -> bool
     ensures { result ≡ list_any (λ who. eqb who (guest g)) list.now }
 {

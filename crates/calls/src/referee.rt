@@ -18,7 +18,7 @@ use tables::state::{Lent, Side, Tables};
 use walks::Walks;
 
 // An `impl` for another crate's type is refused: the methods here have a struct of their own around the tables.
-#[derive(Clone, Copy)]
+#[derive(Clone, Copy, Debug, PartialEq, Eq)]
 pub struct Referee {
     pub tables: Tables,
 }

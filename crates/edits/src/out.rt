@@ -7,7 +7,7 @@ use numbers::answers::Seen;
 use numbers::refusals::Refusal;
 use tables::state::Tables;
 
-#[derive(Clone, Copy)]
+#[derive(Clone, Copy, Debug, PartialEq, Eq)]
 pub struct Out {
     pub seen: Seen,
     pub tables: Tables,

@@ -8,7 +8,7 @@ mod pages;
 mod vms;
 
 // An `impl` for another crate's type is refused: the methods have a struct of their own around the tables.
-#[derive(Clone, Copy)]
+#[derive(Clone, Copy, Debug, PartialEq, Eq)]
 pub struct Holdings {
     pub tables: Tables,
 }

@@ -22,7 +22,7 @@ use text::line::Line;
 use text::{answers, input};
 
 // Where a log stands between two pieces: the line that is not finished, whether the boot line has come, the tables.
-#[derive(Clone, Copy)]
+#[derive(Clone, Copy, Debug, PartialEq, Eq)]
 pub struct Replay {
     pub line: Line,
     pub booted: bool,
@@ -30,7 +30,7 @@ pub struct Replay {
 }
 
 // What a piece comes to: its number, how many bytes of answers were written, where the log then stands.
-#[derive(Clone, Copy)]
+#[derive(Clone, Copy, Debug, PartialEq, Eq)]
 pub struct Fed {
     pub number: u8,
     pub written: usize,

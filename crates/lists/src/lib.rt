@@ -16,7 +16,7 @@ use tables::state::Tables;
 
 // What a list gives back: its own number, how many actions are handled and how many were accepted, and the tables. On the way the count
 // of those accepted and the tables are those of the actions that have gone.
-#[derive(Clone, Copy)]
+#[derive(Clone, Copy, Debug, PartialEq, Eq)]
 pub struct Ran {
     pub number: u8,
     pub handled: usize,

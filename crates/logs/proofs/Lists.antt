@@ -31,7 +31,7 @@ zeros-refused : frame_number (decode (replicate frame_bytes 0)) ≡ 3
 unfolding frame_bytes decode big kinds row_of first least frame_number
 zeros-refused = refl
 
-turn-action : (s : Log) (l : List ℕ) → s.booted ≡ true → turn s l ≡ acts (unwrap_or (heard l) (replicate frame_bytes 0)) s
+pub turn-action : (s : Log) (l : List ℕ) → s.booted ≡ true → turn s l ≡ acts (unwrap_or (heard l) (replicate frame_bytes 0)) s
 unfolding turn heard
 turn-action s l b = split (well_shaped l)
     (λ e. rw (e, b))

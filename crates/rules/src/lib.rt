@@ -1,2 +1,2 @@
-// The rules of the actions, as definitions and theorems: see specs/ and proofs/. Nothing here runs; crate `actions` has the code.
+// The rules of the actions, as definitions and theorems: see specs/ and proofs/. Nothing here runs; the crates from `access` to `lists` have the code.
 #![tactic(auto)]

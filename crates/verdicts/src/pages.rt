@@ -1,5 +1,5 @@
 // Pages: who holds them and who shares them. Kinds 12 to 15, 20 and 21.
-#![tactic(auto, using(numbers::proofs::Bools::not_is, numbers::proofs::Bools::and_asks, numbers::proofs::Bools::or_asks, crate::proofs::PlaceLaws::asked_first), unfolding(numbers::specs::Rules::least, access::specs::Lent::number, numbers::specs::Sizes::guests, numbers::specs::Sizes::pages, rules::specs::Actions::leans))]
+#![tactic(auto, using(numbers::proofs::Bools::not_is, numbers::proofs::Bools::and_asks, numbers::proofs::Bools::or_asks), unfolding(numbers::specs::Rules::least, access::specs::Lent::number, numbers::specs::Sizes::guests, numbers::specs::Sizes::pages))]
 
 ghost use Rattle.std.specs.Prelude.{◌≡◌, IfOk};
 ghost use Rattle.numbers.specs.Refusals.{numbered};
@@ -85,6 +85,7 @@ pub fn share_page(t: Lent, l: u8, r: u8, p: u16) -> Result<Option<usize>, Refusa
 }
 
 // The guest maps the page and is not its CPU holder.
+#[tactic(auto, using(numbers::proofs::Bools::not_is, numbers::proofs::Bools::and_asks, numbers::proofs::Bools::or_asks), unfolding(rules::specs::Actions::leans))]
 fn leans(t: Lent, g: u8, p: u16) -> bool
     ensures { result ≡ leans (tables_of t.entry) g p }
 {
@@ -92,6 +93,7 @@ fn leans(t: Lent, g: u8, p: u16) -> bool
 }
 
 // 15: the first place of the pair.
+#[tactic(auto, using(numbers::proofs::Bools::not_is, numbers::proofs::Bools::and_asks, numbers::proofs::Bools::or_asks, crate::proofs::PlaceLaws::asked_first), unfolding(numbers::specs::Rules::least, access::specs::Lent::number, numbers::specs::Sizes::guests, numbers::specs::Sizes::pages))]
 pub fn unshare_page(t: Lent, l: u8, r: u8, p: u16) -> Result<usize, Refusal>
     ensures number { numbered result ≡ number (tables_of t.entry) (UnsharePage l r p) }
     ensures at { IfOk result (λ at. at ≡ first (hit W (shared_by l r p)) t.entry.pairs.now) }

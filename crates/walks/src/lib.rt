@@ -7,7 +7,7 @@ use tables::state::Tables;
 mod accesses;
 mod maps;
 
-#[derive(Clone, Copy)]
+#[derive(Clone, Copy, Debug, PartialEq, Eq)]
 pub struct Walks {
     pub tables: Tables,
 }
