@@ -12,6 +12,7 @@ mod rows;
 mod walks;
 
 // All of it, but for the lengths, which an array has by its type.
+#[tactic(auto, using(numbers::proofs::Bools::and_asks), unfolding(tables::specs::Wf::in_order))]
 fn in_order(t: Lent) -> bool
     ensures { result ≡ in_order (tables_of t.entry) }
 {

@@ -14,6 +14,7 @@ fn vm_ok(present: &[bool], who: u8) -> bool
         || state::guest_of(who).is_some_and(|guest| cells::get_or(present, guest as usize, false))
 }
 
+#[tactic(auto, using(numbers::proofs::Bools::and_asks, numbers::proofs::Bools::or_asks), unfolding(numbers::specs::Tests::isnt, tables::specs::Wf::page_ok))]
 fn page_ok(t: Lent, page: usize) -> bool
     ensures { result ≡ page_at t.entry.present.now t.entry.holder.now t.entry.dma.now t.entry.region.now page }
 {

@@ -12,6 +12,7 @@ use tables::search::Want;
 use tables::state::{Lent, Side};
 
 // An entry whose numbers are in range.
+#[tactic(auto, using(numbers::proofs::Bools::and_asks), unfolding(tables::specs::Wf::entry_ok, numbers::specs::Sizes::units, numbers::specs::Sizes::guests, numbers::specs::Sizes::gpages, numbers::specs::Sizes::pages, numbers::specs::Sizes::accesses))]
 pub fn entry_ok(word: u32) -> bool
     ensures { result ≡ entry_ok word }
 {
@@ -24,6 +25,7 @@ pub fn entry_ok(word: u32) -> bool
 }
 
 // An entry of a side's map: its guest is present and may reach its page.
+#[tactic(auto, using(numbers::proofs::Bools::and_asks), unfolding(tables::specs::Wf::map_row_ok))]
 pub fn map_row_ok(t: Lent, side: Side, word: u32) -> bool
     ensures { result ≡ side_row side (tables_of t.entry) word }
 {
@@ -34,6 +36,7 @@ pub fn map_row_ok(t: Lent, side: Side, word: u32) -> bool
         && t.may_reach(side, guest, entries::page_in(word))
 }
 
+#[tactic(auto, using(numbers::proofs::Bools::and_asks), unfolding(numbers::specs::Tests::isnt, tables::specs::Wf::pair_ok, numbers::specs::Sizes::guests, numbers::specs::Sizes::pages))]
 pub fn pair_ok(present: &[bool], word: u32) -> bool
     ensures { result ≡ pair_ok present.now word }
 {

@@ -94,6 +94,7 @@ fn tlb_safe(map: &[u32], tlb: &[u32]) -> bool
 }
 
 // A side's map and its TLB.
+#[tactic(auto, using(numbers::proofs::Bools::and_asks), unfolding(tables::specs::Wf::walk_ok))]
 pub fn walk_ok(t: Lent, side: Side) -> bool
     ensures { result ≡ side_ok side (tables_of t.entry) }
 {

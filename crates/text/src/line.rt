@@ -19,6 +19,7 @@ impl Line {
     // One more than a line of good shape has: too long stays too long.
     pub const MOST: usize = input::DIGITS + 1;
 
+    #[tactic(auto, unfolding(crate::specs::Line::kept, crate::specs::Line::most, crate::specs::Line::padded, crate::specs::Text::line_digits, numbers::specs::Sizes::frame_bytes))]
     pub fn empty() -> Line
         ensures { result ≡ kept [] }
     {
