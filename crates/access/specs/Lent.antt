@@ -1,13 +1,13 @@
 -- An action in front of the tables, lent or not: its number, and for kinds 01 to 05, which leave the tables as they are, all of it.
-use Rattle.std.specs.Prelude.{ℕ, Bool, cond, List}
+use Rattle.std.specs.Prelude.{ℕ, List}
 use Rattle.numbers.specs.Sizes.{guests, units, guest_words}
-use Rattle.numbers.specs.Tests.{◌or◌, isnt}
+use Rattle.numbers.specs.Tests.{◌or◌}
 use Rattle.numbers.specs.Rules.{Rules, least}
-use Rattle.numbers.specs.Rules.Rules.{accept, ◌⇒◌∣◌}
+use Rattle.numbers.specs.Rules.Rules.{◌⇒◌∣◌}
 use Rattle.numbers.specs.Frames.{off}
 use Rattle.numbers.specs.declared.answers.Seen.{Seen}
 use Rattle.numbers.specs.declared.frames.Action.{Action}
-use Rattle.tables.specs.State.{nothing, can_read, can_write}
+use Rattle.tables.specs.State.{nothing}
 use Rattle.tables.specs.declared.state.Tables.{Tables}
 use Rattle.tables.specs.declared.state.Side.{Side}
 use Rattle.tables.specs.declared.state.Side.TheVariants.{Cpu, Iommu}
@@ -45,13 +45,11 @@ guest_op a =
     0x05 does Write Iommu a.guest a.second a.address a.word ∣
     otherwise (HyperCall a.guest a.second a.word))
 
--- the refusals of an access that writes, or reads
-abbrev pub access_rules : Bool → Side → Tables → Ask → Rules
-access_rules writes d m q =
-    let found = seen d m q.guest q.unit q.address in
+-- the refusals of an access up to 9, and then the later ones
+abbrev pub access_rules : Side → Tables → Ask → Rules → Rules
+access_rules d m q later =
     off q.guest guests or off q.unit units or off q.address guest_words ⇒ 4 ∣
     absent m q.guest ⇒ 6 ∣
     elsewhere d m q.unit q.guest ⇒ 8 ∣
-    nothing found ⇒ 9 ∣
-    isnt (cond writes (can_write found) (can_read found)) ⇒ 10 ∣
-    accept
+    nothing (seen d m q.guest q.unit q.address) ⇒ 9 ∣
+    later

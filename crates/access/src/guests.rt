@@ -1,11 +1,10 @@
 // Kinds 01 to 05 on lent tables, which they leave as they are: no table is moved for them.
 #![tactic(auto, using(numbers::proofs::Bools::not_is, numbers::proofs::Bools::or_asks, crate::proofs::Answers::refuses_served), unfolding(numbers::specs::Rules::least, numbers::specs::Sizes::guests, numbers::specs::Sizes::units, numbers::specs::Sizes::gpages, numbers::specs::Sizes::page_words, crate::specs::Lent::number, crate::specs::Lent::served, rules::specs::Actions::next, rules::specs::Actions::does))]
 
-ghost use Rattle.std.specs.Prelude.{◌≡◌, cond, List, ℕ, IfOk};
+ghost use Rattle.std.specs.Prelude.{◌≡◌, List, ℕ, Some, IfOk, IfErr};
 ghost use Rattle.numbers.specs.Answers.{seen_of};
-ghost use Rattle.numbers.specs.Refusals.{numbered};
-ghost use Rattle.numbers.specs.Rules.{least};
-ghost use Rattle.numbers.specs.Entries.{readable, writable};
+ghost use Rattle.numbers.specs.Refusals.{number_of};
+ghost use Rattle.numbers.specs.Rules.{Rules, least};
 ghost use Rattle.tables.specs.Lent.{tables_of};
 ghost use Rattle.rules.specs.Actions.{elsewhere, seen, word_at};
 ghost use Rattle.rules.specs.Actions.Op.{Read, Write, HyperCall};
@@ -37,21 +36,11 @@ fn elsewhere(t: Lent, side: Side, g: u8, u: u8) -> bool
     }
 }
 
-// 10: what the entry allows.
-fn allows(word: u32, writes: bool) -> bool
-    ensures { result ≡ cond writes (writable word) (readable word) }
-{
-    if writes {
-        entries::writable(word)
-    } else {
-        entries::readable(word)
-    }
-}
-
-// An access through a side's map and TLB: the word of memory that it leads to, or why it is refused.
-fn access(t: Lent, side: Side, ask: Ask, writes: bool) -> Result<usize, Refusal>
-    ensures number { numbered result ≡ least (access_rules writes side (tables_of t.entry) ask) }
-    ensures at { IfOk result (λ at. at ≡ word_at (seen side (tables_of t.entry) ask.guest ask.unit ask.address) ask.address) }
+// What the side's TLB or map has for an address: 4, 6, 8 and 9, which come before what the entry allows.
+fn translation(t: Lent, side: Side, ask: Ask) -> Result<u32, Refusal>
+    ensures ok { (later : Rules) → IfOk result (λ _. least (access_rules side (tables_of t.entry) ask later) ≡ least later) }
+    ensures word { IfOk result (λ word. seen side (tables_of t.entry) ask.guest ask.unit ask.address ≡ Some word) }
+    ensures err { (later : Rules) → IfErr result (λ e. number_of e ≡ least (access_rules side (tables_of t.entry) ask later)) }
 {
     let g = ask.guest;
     let u = ask.unit;
@@ -64,24 +53,32 @@ fn access(t: Lent, side: Side, ask: Ask, writes: bool) -> Result<usize, Refusal>
     let Some(word) = state::lookup(t.map_of(side), t.tlb_of(side), u, g, page) else {
         return Err(Refusal::NoTranslation);
     };
-    Refusal::NotAllowed.when(!allows(word, writes))?;
-    Ok(addresses::word_of(entries::page_in(word), addresses::offset_of(a)))
+    Ok(word)
+}
+
+// The word of memory that a translation leads to.
+fn place(word: u32, address: u16) -> usize
+    ensures { result ≡ word_at (Some word) address }
+{
+    addresses::word_of(entries::page_in(word), addresses::offset_of(address))
 }
 
 // 01 Read, 04 DmaRead
 pub fn read(t: Lent, side: Side, ask: Ask, mem: &[u64]) -> Result<u64, Refusal>
     ensures { left (seen_of result) mem.now ≡ served (tables_of t.entry) (Read side ask.guest ask.unit ask.address) mem.now }
 {
-    let at = access(t, side, ask, false)?;
-    Ok(cells::get_or(mem, at, 0))
+    let word = translation(t, side, ask)?;
+    Refusal::NotAllowed.when(!entries::readable(word))?;
+    Ok(cells::get_or(mem, place(word, ask.address), 0))
 }
 
 // 02 Write, 05 DmaWrite: no word is handed back.
 pub fn write(t: Lent, side: Side, ask: Ask, word: u64, mem: &mut [u64]) -> Result<u64, Refusal>
     ensures { left (seen_of result) mem.new ≡ served (tables_of t.entry) (Write side ask.guest ask.unit ask.address word) mem.old }
 {
-    let at = access(t, side, ask, true)?;
-    cells::set(mem, at, word);
+    let entry = translation(t, side, ask)?;
+    Refusal::NotAllowed.when(!entries::writable(entry))?;
+    cells::set(mem, place(entry, ask.address), word);
     Ok(0)
 }
 

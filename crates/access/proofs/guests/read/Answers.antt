@@ -1,8 +1,36 @@
 -- `access::guests::read` meets its contract.
-use Rattle.access.specs.Lent.{number}
-use Rattle.access.proofs.Answers.{accepts_served}
+use Rattle.std.proofs.lemmas.Result.{err_from_is_err_and}
+use mathlib.Core.Path.{refl, sym, ap, ◌∙◌}
+use Rattle.tables.specs.Lent.{tables_of}
+use Rattle.tables.specs.State.{can_read}
+use Rattle.std.specs.Prelude.{Option, ℕ}
+use Rattle.rules.specs.Actions.{seen, word_at}
+use Rattle.rules.specs.Actions.Op.{Read}
+use Rattle.access.specs.Lent.{access_rules}
+use Rattle.access.proofs.AccessLaws.{refused-early, refused-10, allowed}
 use Rattle.access.proofs.guests.read.Goals as goal
 
+pub returns-in_err-word : goal.returns-in_err-word
+returns-in_err-word c =
+    let t = c.args in
+    let m = tables_of t.t in
+    let p = err_from_is_err_and c.from_residual.result c.from_residual.ensures.1 in
+    rw (p.1, p.2) (refused-early m (Read t.side t.ask.guest t.ask.unit t.ask.address) (access_rules t.side m t.ask) (can_read (seen t.side m t.ask.guest t.ask.unit t.ask.address)) refl _ c.in_err-word.field-0.0 c.in_err-word.ensures.err)
+
+pub returns-in_err-when : goal.returns-in_err-when
+returns-in_err-when c =
+    let t = c.args in
+    let m = tables_of t.t in
+    let p = err_from_is_err_and c.from_residual-in_err-when.result c.from_residual-in_err-when.ensures.1 in
+    rw (p.1, p.2, c.in_err-when.ensures.err.1)
+    (refused-10 m (Read t.side t.ask.guest t.ask.unit t.ask.address) (access_rules t.side m t.ask) (can_read (seen t.side m t.ask.guest t.ask.unit t.ask.address)) refl _
+    c.in_ok-word.ensures.ok (c.readable.ensures ∙ ap can_read (sym c.in_ok-word.ensures.word)) c.in_err-when.ensures.err.0)
+
 pub returns : goal.returns
-unfolding number
-returns c = rw (c.get_or.ensures, c.in_ok-at.ensures.at) (accepts_served _ _ c.in_ok-at.ensures.number _)
+returns c =
+    let t = c.args in
+    let m = tables_of t.t in
+    let at = c.place.ensures ∙ ap (λ (s : Option ℕ). word_at s t.ask.address) (sym c.in_ok-word.ensures.word) in
+    rw (c.get_or.ensures, at)
+    (allowed m (Read t.side t.ask.guest t.ask.unit t.ask.address) (access_rules t.side m t.ask) (can_read (seen t.side m t.ask.guest t.ask.unit t.ask.address)) refl _
+    c.in_ok-word.ensures.ok (c.readable.ensures ∙ ap can_read (sym c.in_ok-word.ensures.word)) c.in_ok-when.ensures.ok)
