@@ -2,7 +2,7 @@
 ghost use Rattle.std.specs.Prelude.{◌≡◌, set};
 ghost use Rattle.tables.specs.State.{map_of, tlb_of, held_on};
 ghost use Rattle.tables.specs.Steps.{wipe_from};
-ghost use Rattle.tables.specs.Wants.{W, meets};
+ghost use Rattle.tables.specs.Wants.{W, meets, invalidated};
 ghost use Rattle.rules.specs.Actions.{clear_page};
 ghost use Rattle.rules.specs.Parts.{with_held, with_walk};
 ghost use Rattle.edits.specs.Edits.{who_is};
@@ -48,6 +48,16 @@ pub fn wipe_tlb(t: &mut Tables, side: Side, from: usize, want: Want)
     match side {
         Side::Cpu => search::wipe_from(&mut t.tlb, from, want),
         Side::Iommu => search::wipe_from(&mut t.io_tlb, from, want),
+    }
+}
+
+// The guest's entries for the guest page leave the side's TLB, on every unit.
+pub fn invalidate(t: &mut Tables, side: Side, g: u8, v: u16)
+    ensures { t.new ≡ with_walk side t.old (map_of side t.old) (invalidated g v (tlb_of side t.old)) }
+{
+    match side {
+        Side::Cpu => search::invalidate(&mut t.tlb, g, v),
+        Side::Iommu => search::invalidate(&mut t.io_tlb, g, v),
     }
 }
 

@@ -6,7 +6,7 @@ ghost use Rattle.std.specs.List.{position};
 ghost use Rattle.numbers.specs.Search.{first};
 ghost use Rattle.tables.specs.Steps.{wipe_from};
 ghost use Rattle.tables.specs.Table.{hit, find, has, seat, cleared};
-ghost use Rattle.tables.specs.Wants.{W, has_key, ends_at, joins, meets, found};
+ghost use Rattle.tables.specs.Wants.{W, has_key, ends_at, joins, meets, found, invalidated};
 
 use numbers::entries;
 
@@ -136,4 +136,11 @@ pub fn wipe_from(rows: &mut [u32], from: usize, want: Want)
     for i in from..rows.len() {
         rows[i] = cleared(rows[i], want);
     }
+}
+
+// The guest's entries for the guest page leave a TLB, on every unit.
+pub fn invalidate(tlb: &mut [u32], guest: u8, gpage: u16)
+    ensures { tlb.new ≡ invalidated guest gpage tlb.old }
+{
+    wipe_from(tlb, 0, Want::Everywhere(guest, gpage));
 }

@@ -22,7 +22,7 @@ impl Walks {
             Ok(at) => {
                 let word = entries::entry(0, g, v, p, x);
                 changes::set_map_row(&mut self.tables, side, at, word);
-                changes::wipe_tlb(&mut self.tables, side, 0, Want::Everywhere(g, v));
+                changes::invalidate(&mut self.tables, side, g, v);
                 Out::accepted(self.tables)
             }
         }
@@ -37,7 +37,7 @@ impl Walks {
             Ok(at) => {
                 let key = Want::Key(entries::key_of(0, g, v));
                 changes::wipe_map(&mut self.tables, side, at, key);
-                changes::wipe_tlb(&mut self.tables, side, 0, Want::Everywhere(g, v));
+                changes::invalidate(&mut self.tables, side, g, v);
                 Out::accepted(self.tables)
             }
         }

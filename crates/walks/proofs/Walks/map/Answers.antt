@@ -5,7 +5,7 @@ use Prim.Native.Nat.{ℕ}
 use Rattle.numbers.specs.Entries.{key_of}
 use Rattle.tables.specs.State.{map_of}
 use Rattle.tables.specs.Table.{seat, put}
-use Rattle.tables.specs.Wants.{W, has_key, everywhere}
+use Rattle.tables.specs.Wants.{W, has_key}
 use Rattle.tables.specs.declared.state.Tables.{Tables}
 use Rattle.edits.proofs.MapAndTlb.{and_then_tlb}
 use Rattle.edits.proofs.Answered.{refused_out, accepted_out}
@@ -21,5 +21,5 @@ returns-in-Ok c =
     let key = key_of 0 c.args.g c.args.v in
     let at = c.in-Ok.ensures.at ∙ ap (λ (t : Tables). seat W (has_key key) (map_of side t)) c.lend.ensures in
     let map = c.set_map_row.ensures ∙ rw (c.entry-word.ensures, at) in
-    let changed = c.wipe_tlb.ensures ∙ and_then_tlb side c.args.self.tables (everywhere c.args.g c.args.v) _ _ map in
+    let changed = c.invalidate.ensures ∙ and_then_tlb side c.args.self.tables c.args.g c.args.v _ _ map in
     λ (ws : List ℕ). accepted_out _ _ c.accepted.ensures c.lend.ensures c.in-Ok.ensures.number changed ws refl refl

@@ -6,7 +6,7 @@ use Rattle.numbers.specs.Entries.{key_of}
 use Rattle.numbers.specs.Search.{first}
 use Rattle.tables.specs.State.{map_of}
 use Rattle.tables.specs.Table.{hit}
-use Rattle.tables.specs.Wants.{W, has_key, everywhere}
+use Rattle.tables.specs.Wants.{W, has_key}
 use Rattle.tables.specs.declared.state.Tables.{Tables}
 use Rattle.tables.proofs.TableLaws.{wipe_from-first}
 use Rattle.edits.proofs.MapAndTlb.{and_then_tlb}
@@ -22,5 +22,5 @@ returns-in-Ok c =
     let key = key_of 0 c.args.g c.args.v in
     let at = c.in-Ok.ensures.at ∙ ap (λ (t : Tables). first (hit W (has_key key)) (map_of side t)) c.lend.ensures in
     let map = c.wipe_map.ensures ∙ rw (c.key_of.ensures, at, wipe_from-first) in
-    let changed = c.wipe_tlb.ensures ∙ and_then_tlb side c.args.self.tables (everywhere c.args.g c.args.v) _ _ map in
+    let changed = c.invalidate.ensures ∙ and_then_tlb side c.args.self.tables c.args.g c.args.v _ _ map in
     λ (ws : List ℕ). accepted_out _ _ c.accepted.ensures c.lend.ensures c.in-Ok.ensures.number changed ws refl refl
