@@ -1,5 +1,5 @@
 #!/usr/bin/env python3
-"""Respells this repository's own definitions, fields and lemmas, once, after /opt/rattle/port/port.py and before any edit by hand.
+"""Respells this repository's own definitions, fields and lemmas, once, after the toolchain's `port.py` and before any edit by hand.
 
 usage: python3 tools/respell.py [--plan]     at the top of the checkout; --plan prints the names and writes nothing
 

@@ -2,7 +2,7 @@
 use mathlib.Core.Path.{◌≡◌, refl, ap, ◌∙◌}
 use mathlib.Core.Bool.{Bool, true, false, cond}
 use mathlib.Core.List.{List}
-use Prim.Native.Nat.{ℕ, zero, suc, ◌+◌, ◌-◌, ◌*◌, ◌/◌, ◌≤◌, ◌<◌, ◌^◌}
+use Prim.Native.Nat.{ℕ, zero, suc, ◌+◌, ◌-◌, ◌*◌, ◌≤◌, ◌<◌, ◌^◌}
 use native.Mathlib.Numerals.{add-one}
 use native.Mathlib.Omega.{arith}
 use lib.Dec.{eqb}
@@ -118,13 +118,6 @@ module _ (odd : Bool) (n : ℕ) (m : Tables) (memory numbers words : ℕ) {r : R
   handled-le = rw (ap (λ (x : Ran). x.handled) e) (split (eqb (least (own_rules odd n m memory numbers words)) 0)
       (λ t. rw t (omega arith))
       (λ t. rw t (omega arith)))
-
--- so the frames that are handled stand in the bytes
-pub frames-fit : (odd : Bool) (bytes : ℕ) (m : Tables) (memory numbers words : ℕ) {r : Ran} →
-    r ≡ begun odd (bytes / frame_bytes) m memory numbers words → r.handled * frame_bytes ≤ bytes
-unfolding frame_bytes
-frames-fit odd bytes m memory numbers words {r} e =
-    let l : r.handled ≤ bytes / frame_bytes = handled-le odd (bytes / frame_bytes) m memory numbers words e in omega arith
 
 -- what stands after n actions, as `rules` says it
 went-is : (f : ℕ → Action) (n own all : ℕ) (s : Machine) (numbers words : List ℕ) →

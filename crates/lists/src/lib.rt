@@ -1,10 +1,11 @@
 // A list of actions, one after the other: as frames in lent bytes, and as decoded actions.
 #![tactic(auto)]
 
-ghost use Rattle.std.specs.Prelude.{◌≡◌, ◌<◌};
+ghost use Rattle.std.specs.Prelude.{◌/◌, ◌≡◌, ◌<◌, length};
 ghost use Rattle.numbers.specs.Refusals.{numbered};
 ghost use Rattle.numbers.specs.Rules.{least};
-ghost use Rattle.rules.specs.Calls.{run, run_actions};
+ghost use Rattle.numbers.specs.Sizes.{frame_bytes};
+ghost use Rattle.rules.specs.Calls.{frame_at, run, run_actions};
 ghost use Rattle.lists.specs.Lists.{handled, own_rules, begun, ended};
 
 use calls::referee;
@@ -85,6 +86,16 @@ fn begin(referee: Referee, odd: bool, n: usize, memory: usize, numbers: usize, w
 }
 
 // ── lists ──
+// The frame at place i, as an action.
+#[tactic(auto, using(crate::proofs::ListLaws::frame_is), unfolding(numbers::specs::Sizes::frame_bytes))]
+fn frame(bytes: &[u8], i: usize) -> Action
+    requires { i < length bytes.now / frame_bytes }
+    ensures { result ≡ frame_at bytes.now i }
+{
+    let at = i * Action::BYTES;
+    Action::decode(&bytes[at..at + Action::BYTES])
+}
+
 // A list of frames.
 pub fn run(
     referee: Referee,
@@ -100,9 +111,7 @@ pub fn run(
     let odd = bytes.len() % Action::BYTES != 0;
     let mut ran = begin(referee, odd, n, mem.len(), numbers.len(), words.len());
     for i in 0..ran.handled {
-        let at = i * Action::BYTES;
-        let a = Action::decode(&bytes[at..at + Action::BYTES]);
-        handle(&mut ran, a, i, mem, numbers, words);
+        handle(&mut ran, frame(bytes, i), i, mem, numbers, words);
     }
     ran
 }
