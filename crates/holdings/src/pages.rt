@@ -9,7 +9,7 @@ ghost use Rattle.edits.specs.Edits.{after};
 use crate::Holdings;
 use edits::changes;
 use edits::out::Out;
-use numbers::{cells, entries};
+use numbers::cells;
 use tables::search;
 use tables::search::Want;
 use tables::state::{Side, Tables};
@@ -51,8 +51,8 @@ impl Holdings {
         match pages::share_page(self.tables.lend(), l, r, p) {
             Err(refusal) => Out::refused(self.tables, refusal),
             Ok(None) => Out::accepted(self.tables),
-            Ok(Some(at)) => {
-                cells::set(&mut self.tables.pairs, at, entries::pair(l, r, p, 0));
+            Ok(Some(row)) => {
+                cells::set(&mut self.tables.pairs, row.at, row.word);
                 Out::accepted(self.tables)
             }
         }

@@ -1,8 +1,8 @@
 -- A place that a search comes to, as an answer: it is there, or the refusal that says so is given.
 use Rattle.std.specs.Prelude.{◌≡◌, ◌<◌, ◌≤◌, ℕ, Bool, true, false, cond, List, Option, None, Some, Result, IfSome, IfNone, IfOk, IfErr, length}
-use Rattle.std.specs.Option.{ok_or}
+use Rattle.std.specs.Option.{ok_or, option_map}
 use Rattle.std.specs.List.{position}
-use mathlib.Core.Path.{refl, sym, ◌∙◌}
+use mathlib.Core.Path.{refl, sym, ap, ◌∙◌}
 use native.Mathlib.Omega.{arith}
 use borrow.Author.Tests.{lt-ltb, le-ltb, lt-leb, le-leb}
 use Rattle.numbers.specs.Search.{first}
@@ -14,7 +14,8 @@ use Rattle.tables.specs.Wants.{W, found}
 use Rattle.tables.proofs.TableLaws.{no-room-seat, live-find}
 use Rattle.tables.proofs.WantLaws.{found-some, found-none}
 use Rattle.numbers.proofs.Bools.{split, cond-true, cond-false, isnt-i, isnt-no}
-use Rattle.verdicts.specs.Places.{new_place}
+use Rattle.verdicts.specs.Places.{new_place, new_row}
+use Rattle.verdicts.specs.declared.walks.Row.{Row}
 
 module _ (k : ℕ → Bool) (t : List ℕ) (e : Refusal) {q : Result ℕ Refusal} where
   -- ── over the row that has the key, else at the lowest free place ──
@@ -73,3 +74,15 @@ module _ (k : ℕ → Bool) (t : List ℕ) where
   somewhere {at} e = split (has W k t)
       (λ h. let f : Some at ≡ None = e ∙ cond-true h _ _ in absurd (cc))
       (λ h. let f : Some at ≡ Some (first W.free t) = e ∙ cond-false h _ _ in (h, cc))
+
+-- ── a new row: its place, and the row itself ──
+module _ (k : ℕ → Bool) (t : List ℕ) (w : ℕ) where
+  pub place-of : {o : Option Row} → o ≡ new_row k t w → option_map (λ (r : Row). r.at) o ≡ new_place k t
+  place-of e = split (has W k t) (λ h. rw (e, h)) (λ h. rw (e, h))
+
+  pub word-of : {row : Row} → Some row ≡ new_row k t w → row.word ≡ w
+  word-of {row} e = split (has W k t)
+      (λ h. let f : Some row ≡ None = e ∙ cond-true h _ _ in absurd (cc))
+      (λ h. let new : Row = record { at = first W.free t; word = w } in
+      let f : Some row ≡ Some new = e ∙ cond-false h _ _ in
+      let g : row ≡ new = cc in ap (λ (r : Row). r.word) g)

@@ -3,6 +3,7 @@
 
 ghost use Rattle.std.specs.Prelude.{◌≡◌, IfOk};
 ghost use Rattle.numbers.specs.Refusals.{numbered};
+ghost use Rattle.numbers.specs.Entries.{pair};
 ghost use Rattle.numbers.specs.Search.{first};
 ghost use Rattle.numbers.specs.Tests.{◌or◌};
 ghost use Rattle.tables.specs.Lent.{tables_of};
@@ -12,13 +13,14 @@ ghost use Rattle.tables.specs.Wants.{W, shared_by};
 ghost use Rattle.rules.specs.Actions.{holds, dma_holds, leans};
 ghost use Rattle.rules.specs.Actions.Op.{AssignPage, ReclaimPage, SharePage, UnsharePage, IommuAssignPage, IommuReclaimPage};
 ghost use Rattle.access.specs.Lent.{number};
-ghost use Rattle.verdicts.specs.Places.{new_place};
+ghost use Rattle.verdicts.specs.Places.{new_row};
 
 use crate::places;
+use crate::walks::Row;
 use access::parts;
-use numbers::cells;
 use numbers::frames::Action;
 use numbers::refusals::Refusal;
+use numbers::{cells, entries};
 use tables::search;
 use tables::search::Want;
 use tables::state::{Lent, Side, Tables};
@@ -71,17 +73,23 @@ pub fn reclaim_page(t: Lent, side: Side, g: u8, p: u16) -> Result<(), Refusal>
     }
 }
 
-// 14: where a new pair goes, or nowhere, since one that stands, in either order, stays as it is.
-pub fn share_page(t: Lent, l: u8, r: u8, p: u16) -> Result<Option<usize>, Refusal>
+// 14: a new pair and where it goes, or nothing, since one that stands, in either order, stays as it is.
+pub fn share_page(t: Lent, l: u8, r: u8, p: u16) -> Result<Option<Row>, Refusal>
     ensures number { numbered result ≡ number (tables_of t.entry) (SharePage l r p) }
-    ensures at { IfOk result (λ at. at ≡ new_place (shared_by l r p) t.entry.pairs.now) }
+    ensures row { IfOk result (λ row. row ≡ new_row (shared_by l r p) t.entry.pairs.now (pair l r p 0)) }
 {
     let far = Action::GUESTS <= l || Action::GUESTS <= r || Action::PAGES <= p;
     Refusal::OutOfRange.when(far)?;
     Refusal::SameGuest.when(l == r)?;
     Refusal::AbsentGuest.when(parts::absent(t.present, l) || parts::absent(t.present, r))?;
     Refusal::NotHeld.when(!parts::holds(t.holder, l, p))?;
-    places::new_place(t.pairs, Want::Pair(l, r, p))
+    match places::new_place(t.pairs, Want::Pair(l, r, p))? {
+        Some(at) => {
+            let word = entries::pair(l, r, p, 0);
+            Ok(Some(Row { at, word }))
+        }
+        None => Ok(None),
+    }
 }
 
 // The guest maps the page and is not its CPU holder.

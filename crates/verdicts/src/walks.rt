@@ -7,7 +7,7 @@ ghost use Rattle.numbers.specs.Refusals.{numbered};
 ghost use Rattle.numbers.specs.Sizes.{guests, pages, gpages, accesses};
 ghost use Rattle.numbers.specs.Tests.{◌or◌};
 ghost use Rattle.numbers.specs.Search.{first};
-ghost use Rattle.numbers.specs.Entries.{key_of, at_unit};
+ghost use Rattle.numbers.specs.Entries.{key_of, entry, at_unit};
 ghost use Rattle.tables.specs.Lent.{tables_of};
 ghost use Rattle.tables.specs.State.{map_of, tlb_of};
 ghost use Rattle.tables.specs.Table.{hit, find, seat};
@@ -30,15 +30,25 @@ fn far(g: u8, v: u16, p: u16, x: u8) -> bool
     Action::GUESTS <= g || Action::GPAGES <= v || Action::PAGES <= p || Action::ACCESSES <= x
 }
 
-// 16, 22: where the entry goes.
-pub fn map(t: Lent, side: Side, g: u8, v: u16, p: u16, x: u8) -> Result<usize, Refusal>
+// A row, and where it goes.
+#[derive(Clone, Copy, Debug, PartialEq, Eq)]
+pub struct Row {
+    pub at: usize,
+    pub word: u32,
+}
+
+// 16, 22: the entry, and where it goes.
+pub fn map(t: Lent, side: Side, g: u8, v: u16, p: u16, x: u8) -> Result<Row, Refusal>
     ensures number { numbered result ≡ number (tables_of t.entry) (Map side g v p x) }
-    ensures at { IfOk result (λ at. at ≡ seat W (has_key (key_of 0 g v)) (map_of side (tables_of t.entry))) }
+    ensures row { IfOk result (λ row. (row.at ≡ seat W (has_key (key_of 0 g v)) (map_of side (tables_of t.entry)))
+        × (row.word ≡ entry 0 g v p x)) }
 {
     Refusal::OutOfRange.when(far(g, v, p, x))?;
     Refusal::AbsentGuest.when(parts::absent(t.present, g))?;
     Refusal::NotHeld.when(!t.may_reach(side, g, p))?;
-    places::seated(t.map_of(side), entries::key_of(0, g, v))
+    let at = places::seated(t.map_of(side), entries::key_of(0, g, v))?;
+    let word = entries::entry(0, g, v, p, x);
+    Ok(Row { at, word })
 }
 
 // 17, 23: where the entry stands.
@@ -49,13 +59,6 @@ pub fn unmap(t: Lent, side: Side, g: u8, v: u16) -> Result<usize, Refusal>
     Refusal::OutOfRange.when(Action::GUESTS <= g || Action::GPAGES <= v)?;
     Refusal::AbsentGuest.when(parts::absent(t.present, g))?;
     places::standing(t.map_of(side), Want::Key(entries::key_of(0, g, v)))
-}
-
-// A row, and where it goes.
-#[derive(Clone, Copy, Debug, PartialEq, Eq)]
-pub struct Row {
-    pub at: usize,
-    pub word: u32,
 }
 
 // 1a, 24: the copy of the map's entry.

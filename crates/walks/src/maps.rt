@@ -19,9 +19,8 @@ impl Walks {
     {
         match walks::map(self.tables.lend(), side, g, v, p, x) {
             Err(refusal) => Out::refused(self.tables, refusal),
-            Ok(at) => {
-                let word = entries::entry(0, g, v, p, x);
-                changes::set_map_row(&mut self.tables, side, at, word);
+            Ok(row) => {
+                changes::set_map_row(&mut self.tables, side, row.at, row.word);
                 changes::invalidate(&mut self.tables, side, g, v);
                 Out::accepted(self.tables)
             }

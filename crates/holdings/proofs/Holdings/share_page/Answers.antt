@@ -6,7 +6,7 @@ use Rattle.rules.specs.Parts.{with_pairs}
 use Rattle.numbers.proofs.Bools.{cond-true, cond-false}
 use Rattle.tables.specs.Table.{place}
 use Rattle.tables.specs.declared.state.Tables.{Tables}
-use Rattle.verdicts.proofs.PlaceLaws.{nowhere, somewhere}
+use Rattle.verdicts.proofs.PlaceLaws.{nowhere, somewhere, place-of, word-of}
 use Rattle.edits.proofs.Answered.{refused_out, accepted_out}
 use Rattle.holdings.proofs.Holdings.share_page.Goals as goal
 
@@ -17,7 +17,7 @@ pub returns-in-Ok-None : goal.returns-in-Ok-None
 returns-in-Ok-None c =
     let m = c.args.self.tables in
     let pairs = ap (λ (t : Tables). t.pairs) c.lend.ensures in
-    let stands = rw pairs at (nowhere _ _ (sym c.in-Ok-None.field-0-is ∙ c.in-Ok-None.ensures.at)) in
+    let stands = rw pairs at (nowhere _ _ (place-of _ _ _ (sym c.in-Ok-None.field-0-is ∙ c.in-Ok-None.ensures.row))) in
     λ (ws : List ℕ). accepted_out _ _ c.accepted.ensures c.lend.ensures c.in-Ok-None.ensures.number (ap (with_pairs m) (sym (cond-true stands _ _))) ws refl refl
 
 pub returns-in-Ok-Some : goal.returns-in-Ok-Some
@@ -25,6 +25,7 @@ unfolding place
 returns-in-Ok-Some c =
     let m = c.args.self.tables in
     let pairs = ap (λ (t : Tables). t.pairs) c.lend.ensures in
-    let free = rw pairs at (somewhere _ _ (sym c.in-Ok-Some.field-0-is ∙ c.in-Ok-Some.ensures.at)) in
+    let new = sym c.in-Ok-Some.field-0-is ∙ c.in-Ok-Some.ensures.row in
+    let free = rw pairs at (somewhere _ _ (place-of _ _ _ new)) in
     λ (ws : List ℕ). accepted_out _ _ c.accepted-in-Ok-Some.ensures c.lend.ensures c.in-Ok-Some.ensures.number
-    (ap (with_pairs m) (c.set.ensures ∙ rw (c.pair.ensures, free.1, cond-false free.0))) ws refl refl
+    (ap (with_pairs m) (c.set.ensures ∙ rw (word-of _ _ _ new, free.1, cond-false free.0))) ws refl refl

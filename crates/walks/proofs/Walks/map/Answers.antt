@@ -19,7 +19,7 @@ unfolding put
 returns-in-Ok c =
     let side = c.args.side in
     let key = key_of 0 c.args.g c.args.v in
-    let at = c.in-Ok.ensures.at ∙ ap (λ (t : Tables). seat W (has_key key) (map_of side t)) c.lend.ensures in
-    let map = c.set_map_row.ensures ∙ rw (c.entry-word.ensures, at) in
+    let at = c.in-Ok.ensures.row.0 ∙ ap (λ (t : Tables). seat W (has_key key) (map_of side t)) c.lend.ensures in
+    let map = c.set_map_row.ensures ∙ rw (at, c.in-Ok.ensures.row.1) in
     let changed = c.invalidate.ensures ∙ and_then_tlb side c.args.self.tables c.args.g c.args.v _ _ map in
     λ (ws : List ℕ). accepted_out _ _ c.accepted.ensures c.lend.ensures c.in-Ok.ensures.number changed ws refl refl
