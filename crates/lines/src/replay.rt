@@ -75,7 +75,7 @@ impl Replay {
         let mut line = self.line.tidy();
         let mut written: usize = 0;
         let mut rest = bytes;
-        while let Some(end) = input::line_end(rest) {
+        while let Some(end) = input::line_end(rest, 0) {
             let seen = self.turn(line.hear_with(&rest[..end]), mem);
             answers::put(out, written, seen);
             line = Line::empty();

@@ -4,11 +4,13 @@ use mathlib.Core.List.{List, [], ◌∷◌, ◌++◌, append-nil, append_assoc}
 use Prim.Native.Nat.{ℕ, zero, suc, ◌+◌, ◌-◌, ◌/◌, ◌%◌, ◌≤◌, ◌<◌}
 use native.Mathlib.Nat.{add-zero}
 use native.Mathlib.Omega.{arith}
+use lib.Dec.{leb}
 use lib.ListN.{length, take, drop, set, length-append, length-take, length-drop, drop_of_length-le}
 use lib.Seq.{sets, sets-eq, length-sets, set_comm, drop-drop}
 use borrow.Rule.Slice.PartMut.{put_mid}
 use borrow.Author.Tests.{le-leb, lt-leb}
 use Rattle.numbers.specs.declared.answers.Seen.{Seen}
+use Rattle.numbers.proofs.Bools.{split}
 use Rattle.text.specs.Text.{glyph, digits, feed}
 use Rattle.text.specs.Answers.{spelt, answer_bytes, placed}
 
@@ -21,6 +23,10 @@ length_digits (suc n) w = let i = length_digits n (w / 16) in rw length-append (
 pub length-spelt : (s : Seen) → length (spelt s) ≡ answer_bytes
 unfolding spelt answer_bytes
 length-spelt s = simp (length-append, length_digits)
+
+pub length-placed : (out : List ℕ) (at : ℕ) (l : List ℕ) → length (placed out at l) ≡ length out
+unfolding placed
+length-placed out at l = split (leb (at + length l) (length out)) (λ t. rw t (length-sets out at l)) (λ t. rw t)
 
 -- ── digits, as they are written ──
 sets-append : (a b l : List ℕ) (i : ℕ) → sets l i (a ++ b) ≡ sets (sets l i a) (i + length a) b

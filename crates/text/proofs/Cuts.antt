@@ -7,7 +7,8 @@ use native.Mathlib.Omega.{arith}
 use lib.Dec.{eqb, eqb-suc-zero, ltb}
 use lib.ListN.{length, take, drop, get_or, length-append}
 use borrow.Author.Tests.{ne_eqb, ltb-true, ltb-false}
-use Rattle.std.specs.Prelude.{Some, None}
+use Rattle.std.specs.Prelude.{Option, Some, None}
+use Rattle.std.specs.Option.{option_map}
 use Rattle.std.specs.List.{position, position_or_len}
 use Rattle.numbers.proofs.Bools.{split}
 use Rattle.text.specs.Text.{Cut, feed, cut, unended, all_lines}
@@ -68,6 +69,14 @@ at-feed [] k = absurd (omega arith)
 at-feed (x ∷ l) k = split (eqb x feed)
     (λ e. rw e (omega arith))
     (λ e. rw (e, one-more (line_end l)) (let i = at-feed l (let q = rw e at k in omega arith) in omega arith))
+
+-- an answer of where the line ends that starts at the first byte
+from-0 : (o : Option ℕ) → option_map (λ n. 0 + n) o ≡ o
+from-0 None = refl
+from-0 (Some n) = let e : 0 + n ≡ n = omega arith in rw e
+
+pub from-start : (l : List ℕ) {o : Option ℕ} → o ≡ option_map (λ n. 0 + n) (position (λ b. eqb b feed) (drop 0 l)) → o ≡ position (λ b. eqb b feed) l
+from-start l e = e ∙ from-0 _
 
 pub end-inside : (l : List ℕ) {n : ℕ} → Some n ≡ position (λ b. eqb b feed) l → n < length l
 end-inside l e = let q = ends-at l e in omega arith

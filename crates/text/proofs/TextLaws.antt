@@ -50,7 +50,7 @@ pub too_long : (line : List ℕ) → (length line ≡ line_digits → ⊥) → N
 unfolding heard well_shaped
 too_long line n = rw (and-no-l (all_digits line) (ne_eqb _ _ n))
 
-not-digits : (line : List ℕ) → all_digits line ≡ false → None ≡ heard line
+pub not-digits : (line : List ℕ) → all_digits line ≡ false → None ≡ heard line
 unfolding heard well_shaped
 not-digits line e = rw (and-no-r (eqb (length line) line_digits) e)
 

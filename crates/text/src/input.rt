@@ -1,5 +1,6 @@
 // Bytes of a log: its line feeds, and the frame that a line's digits spell.
-ghost use Rattle.std.specs.Prelude.{◌≡◌, cond, eqb, ltb, Some, None, position};
+ghost use Rattle.std.specs.Prelude.{◌≡◌, ◌+◌, cond, drop, eqb, ltb, Some, None, position};
+ghost use Rattle.std.specs.Option.{option_map};
 ghost use Rattle.text.specs.Text.{digit, feed};
 ghost use Rattle.text.specs.Walks.{heard, feeds};
 
@@ -41,11 +42,24 @@ pub fn hear(line: &[u8]) -> Option<[u8; Action::BYTES]>
     good.then_some(bytes)
 }
 
-// Where the first line ends: the place of its feed, if it has one.
-pub fn line_end(bytes: &[u8]) -> Option<usize>
+// The first feed, if there is one.
+fn first_feed(bytes: &[u8]) -> Option<usize>
     ensures { result ≡ position (λ b. eqb b feed) bytes.now }
 {
     bytes.iter().position(|b| *b == FEED)
+}
+
+// Where the line that starts at a place ends: at its feed, if it has one. Past the end of the bytes there is none.
+pub fn line_end(bytes: &[u8], at: usize) -> Option<usize>
+    ensures { result ≡ option_map (λ n. at + n) (position (λ b. eqb b feed) (drop at bytes.now)) }
+{
+    if bytes.len() < at {
+        return None;
+    }
+    match first_feed(&bytes[at..]) {
+        Some(n) => Some(at + n),
+        None => None,
+    }
 }
 
 // How many lines are ended.

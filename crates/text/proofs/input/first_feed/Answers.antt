@@ -3,7 +3,7 @@ use Rattle.std.proofs.Common.{rules, tests, eqb}
 use Rattle.std.proofs.lemmas.Iterator.{YieldsList-from_slice}
 use Rattle.std.proofs.lemmas.Iterator.Search.{position_from_yields_List}
 use Rattle.text.specs.Text.{feed}
-use Rattle.text.proofs.input.line_end.Goals as goal
+use Rattle.text.proofs.input.first_feed.Goals as goal
 
 pub returns : goal.returns
 unfolding feed
