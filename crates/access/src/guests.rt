@@ -92,7 +92,9 @@ pub fn hyper_call(t: Lent, g: u8, u: u8, word: u64) -> Result<u64, Refusal>
     Ok(0)
 }
 
-// The kind chooses. Callers hand over kinds 01 to 05; any other byte is served as 03.
+// The kind chooses. Callers hand over kinds 01 to 05; any other byte is served as 03. Inlined where it is called: there it is known how long the
+// tables are that are lent.
+#[inline(always)]
 pub fn by_kind(t: Lent, a: Action, mem: &mut [u64]) -> Seen
     ensures { left result mem.new ≡ served (tables_of t.entry) (guest_op a) mem.old }
 {

@@ -29,7 +29,7 @@ pub fn another(held: &[u8], g: u8, p: u16) -> bool
     ensures { result ≡ another g (get_or held.now p 0) }
 {
     let h = cells::get_or(held, p as usize, 0);
-    Tables::GUEST <= h && !state::is_guest(h, g)
+    (Tables::GUEST <= h) & !state::is_guest(h, g)
 }
 
 // Some place of a list of holders names the guest.

@@ -145,6 +145,10 @@ module _ {A : Type 0} (K : Shape A) where
   first-ext j k Each.none = refl
   first-ext j k (Each.more {x} {t} p q) = rw (hit-ext j k x p, first-ext j k q)
 
+  pub find-ext : (j k : A → Bool) {t : List A} → Each K (λ x. j x ≡ k x) t → find K j t ≡ find K k t
+  unfolding find
+  find-ext j k p = rw (first-ext j k p)
+
   pub has-ext : (j k : A → Bool) {t : List A} → Each K (λ x. j x ≡ k x) t → has K j t ≡ has K k t
   unfolding has
   has-ext j k p = rw (first-ext j k p)
