@@ -1,5 +1,5 @@
 // The referee: one action, from its kind byte; one frame, in front of the tables.
-ghost use Rattle.std.specs.Prelude.{◌≡◌, IfSome, IfNone};
+ghost use Rattle.std.specs.Prelude.{◌≡◌, false, IfSome, IfNone};
 ghost use Rattle.numbers.specs.Frames.{frame_number};
 ghost use Rattle.tables.specs.Lent.{tables_of};
 ghost use Rattle.rules.specs.Calls.{taken, act};
@@ -25,7 +25,7 @@ pub struct Referee {
 
 // ── actions that leave the tables as they are: no table is moved for them ──
 // Kinds 01 to 05, and of the known kinds no other.
-fn keeps_tables(kind: u8) -> bool
+pub fn keeps_tables(kind: u8) -> bool
     ensures { result ≡ keeps_tables kind }
 {
     match kind {
@@ -39,6 +39,7 @@ fn still(t: Lent, a: Action, mem: &mut [u64]) -> Option<Seen>
     ensures seen { IfSome result (λ seen. left seen mem.new ≡ observed (taken (tables_of t.entry) a mem.old)) }
     ensures tables { IfSome result (λ _. (taken (tables_of t.entry) a mem.old).tables ≡ tables_of t.entry) }
     ensures check { IfNone result (0 ≡ frame_number a) }
+    ensures kind { IfNone result (keeps_tables a.kind ≡ false) }
     ensures memory { IfNone result (mem.new ≡ mem.old) }
 {
     if let Err(refusal) = a.check() {
