@@ -76,16 +76,20 @@ pub fn cached_alone(rt: &impl Print) -> io::Result<()> {
     by_itself(rt, h, Holdings { tables: h }.reclaim_page(Side::Cpu, 1, 5))
 }
 
-fn act(rt: &impl Print, frame: &[u8], mem: &mut [u64]) -> io::Result<()> {
+// In front of the first words of a memory of zeros. It stands here, and not in each call, so that the stack holds it once.
+#[inline(never)]
+fn act(rt: &impl Print, frame: &[u8], words: usize) -> io::Result<()> {
     let tables = start();
-    by_itself(rt, tables, Referee { tables }.act(frame, mem))
+    let mut mem = [0; show::WORDS];
+    let lent = &mut mem[..words.min(show::WORDS)];
+    by_itself(rt, tables, Referee { tables }.act(frame, lent))
 }
 
 // The call's own 1: a byte too few, a word of memory too few. Nothing is changed.
 pub fn too_short(rt: &impl Print) -> io::Result<()> {
     println!(rt; "AddVm 3 in 15 bytes, in front of a word of memory less, and right")?;
     let add_3 = 0x1003000000000000_0000000000000000u128.to_be_bytes();
-    act(rt, &add_3[..15], &mut [0; show::WORDS])?;
-    act(rt, &add_3, &mut [0; show::WORDS - 1])?;
-    act(rt, &add_3, &mut [0; show::WORDS])
+    act(rt, &add_3[..15], show::WORDS)?;
+    act(rt, &add_3, show::WORDS - 1)?;
+    act(rt, &add_3, show::WORDS)
 }

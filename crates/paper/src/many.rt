@@ -53,17 +53,23 @@ fn left(
     println!(rt; "{changes} word {:016x}", cells::get_or(mem, WRITTEN, 0))
 }
 
-// What is lent begins as 7 in each word of memory and ee in each answer, which no action leaves: what is not written shows.
+// What is lent begins as 7 in each word of memory and ee in each answer, which no action leaves: what is not written shows. Memory stands here,
+// and not in each call, so that the stack holds it once.
+#[inline(never)]
 fn run(
     rt: &impl Print,
     tables: Tables,
     bytes: &[u8],
-    mem: &mut [u64],
-    numbers: &mut [u8],
+    memory: usize,
+    places: usize,
 ) -> io::Result<()> {
+    let mut mem = [7; WORDS];
+    let lent = &mut mem[..memory.min(WORDS)];
+    let mut numbers = [0xee; PLACES];
+    let answers = &mut numbers[..places.min(PLACES)];
     let mut words = [0xee; PLACES];
-    let ran = lists::run(Referee { tables }, bytes, mem, numbers, &mut words);
-    left(rt, tables, ran, mem, numbers, &words)
+    let ran = lists::run(Referee { tables }, bytes, lent, answers, &mut words);
+    left(rt, tables, ran, lent, answers, &words)
 }
 
 fn boot() -> Tables {
@@ -74,11 +80,12 @@ pub fn example(rt: &impl Print) -> io::Result<()> {
     println!(rt; "a list of nine, two places more, and a place for each")?;
     let list = frames();
     let bytes = list.as_flattened();
-    run(rt, boot(), bytes, &mut [7; WORDS], &mut [0xee; PLACES])?;
-    run(rt, boot(), bytes, &mut [7; WORDS], &mut [0xee; FRAMES])
+    run(rt, boot(), bytes, WORDS, PLACES)?;
+    run(rt, boot(), bytes, WORDS, FRAMES)
 }
 
 // The list's frames, each decoded by itself.
+#[inline(never)]
 pub fn decoded(rt: &impl Print) -> io::Result<()> {
     println!(rt; "the same, decoded")?;
     let tables = boot();
@@ -96,10 +103,10 @@ pub fn refused(rt: &impl Print) -> io::Result<()> {
     let list = frames();
     let bytes = list.as_flattened();
     let short = &bytes[..bytes.len() - 1];
-    run(rt, boot(), short, &mut [7; WORDS], &mut [0xee; PLACES])?;
-    run(rt, boot(), bytes, &mut [7; WORDS - 1], &mut [0xee; PLACES])?;
-    run(rt, boot(), bytes, &mut [7; WORDS], &mut [0xee; FRAMES - 1])?;
+    run(rt, boot(), short, WORDS, PLACES)?;
+    run(rt, boot(), bytes, WORDS - 1, PLACES)?;
+    run(rt, boot(), bytes, WORDS, FRAMES - 1)?;
     let mut odd = boot();
     odd.running[0] = 9;
-    run(rt, odd, bytes, &mut [7; WORDS], &mut [0xee; PLACES])
+    run(rt, odd, bytes, WORDS, PLACES)
 }

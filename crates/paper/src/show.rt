@@ -58,6 +58,7 @@ impl fmt::Display for Changes {
 }
 
 // Frame after frame, each in front of what the one before left.
+#[inline(never)]
 pub fn acts(rt: &impl Print, start: Tables, frames: &[u128]) -> io::Result<()> {
     let mut old = start;
     let mut mem = [0u64; WORDS];
