@@ -1,5 +1,6 @@
 // The referee: one action, from its kind byte; one frame, in front of the tables.
-ghost use Rattle.std.specs.Prelude.{◌≡◌, false, IfSome, IfNone};
+ghost use Rattle.std.specs.Prelude.{◌≡◌, false, eqb, IfSome, IfNone};
+ghost use Rattle.numbers.specs.Tests.{◌or◌, isnt};
 ghost use Rattle.numbers.specs.Frames.{frame_number};
 ghost use Rattle.tables.specs.Lent.{tables_of};
 ghost use Rattle.rules.specs.Calls.{taken, act};
@@ -25,13 +26,20 @@ pub struct Referee {
 
 // ── actions that leave the tables as they are: no table is moved for them ──
 // Kinds 01 to 05, and of the known kinds no other.
-pub fn keeps_tables(kind: u8) -> bool
+fn keeps_tables(kind: u8) -> bool
     ensures { result ≡ keeps_tables kind }
 {
     match kind {
         0x01..=0x05 => true,
         _ => false,
     }
+}
+
+// The number of its check refuses it, or it is of those kinds.
+pub fn moves_nothing(check: u8, kind: u8) -> bool
+    ensures { result ≡ (isnt (eqb check 0) or keeps_tables kind) }
+{
+    (check != 0) | keeps_tables(kind)
 }
 
 // Such an action on lent tables, and one that its frame check refuses; nothing where the tables have to be moved.
